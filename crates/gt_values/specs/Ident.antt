@@ -1,0 +1,13 @@
+-- Identifiers that the desk makes.
+use Rattle.std.specs.Int.{bytes_high_first}
+use Rattle.std.specs.Prelude.{List, [], ℕ, ◌++◌, ◌∷◌}
+
+-- the last `count` bytes of the number, the greatest first
+abbrev pub bytes_of : ℕ → ℕ → List ℕ
+bytes_of count n = bytes_high_first count n
+
+-- the identifier of the thing of this kind and number: a kind is 1 for a submission identifier, 2 for a task, 3 for an
+-- access rule, 4 for a pause rule, 5 for a timer
+abbrev pub made_id : ℕ → ℕ → ℕ → List ℕ
+made_id namespace kind number =
+    bytes_of 4 namespace ++ 0 ∷ kind ∷ 128 ∷ 0 ∷ 128 ∷ 0 ∷ [] ++ bytes_of 6 number

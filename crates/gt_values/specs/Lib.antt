@@ -1,0 +1,9 @@
+pub mod Capped
+pub mod Forms
+pub mod Grammar
+pub mod IdText
+pub mod Ident
+pub mod Life
+pub mod Moment
+pub mod Reads
+pub mod Rows

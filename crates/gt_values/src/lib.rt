@@ -1,0 +1,24 @@
+//! The values that every part of the desk is made of: texts, lists, tables of rows, identifiers, digests and moments.
+//!
+//! Each type has a model, so that contracts compare values by `≡`: a text and an identifier are lists of bytes, a list is
+//! the list of its elements, a moment is its number of seconds. Nothing here knows a task, a rule or a document.
+#![tactic(auto)]
+
+mod bytes;
+mod digest;
+mod id;
+mod moment;
+mod moment_text;
+mod sequence;
+mod table;
+#[cfg(test)]
+mod tests;
+mod text;
+
+pub use bytes::Bytes;
+pub use digest::Digest;
+pub use id::Id;
+pub use moment::{Moment, MomentFault};
+pub use sequence::{Exact, Sequence};
+pub use table::Table;
+pub use text::Text;
