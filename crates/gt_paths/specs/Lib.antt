@@ -1,0 +1,4 @@
+pub mod Draft
+pub mod Name
+pub mod Path
+pub mod PathText

@@ -1,0 +1,227 @@
+ghost use Rattle.std.specs.Prelude.{◌≡◌, ◌↔◌, ◌⊎◌, ◌++◌, [], length, refl, IfErr, IfOk, IsTrue, string_bytes};
+ghost use Rattle.std.specs.Cmp.{partial_equiv_from_equiv, partial_order_from_agreeing_total};
+ghost use Rattle.std.specs.Cmp.Lexicographic.{lists_equiv, lists_ties, lists_total, nat_list_cmp_total, nat_list_eq_equiv, slice_cmp, texts_ties};
+ghost use Rattle.std.specs.Ordering.{as_partial_cmp, nat_cmp};
+ghost use Rattle.gt_paths.specs.Path.{PathValue, IsUnder, below, child_path, is_path, is_under, overlaps, path_cmp, printed_path, same_path, slashed};
+ghost use Rattle.gt_paths.specs.PathText.{limited, read_path};
+
+use crate::draft::{Draft, MAX_BYTES, MAX_NAMES};
+use crate::fault::PathFault;
+use crate::name::Name;
+use crate::pieces::behind_home;
+use gt_values::Exact;
+use std::alloc::{AllocError, Global};
+use std::cmp::Ordering;
+use std::marker::Model;
+
+/// A path from the root of a collection: at most 64 names, which print in at most 4,096 bytes.
+///
+/// The root has no name. Paths are compared name by name, and names by their bytes.
+#[derive(Debug, Drop)]
+pub struct Path {
+    names: Vec<Name>,
+}
+
+impl Model for Path {
+    ghost use Rattle.std.specs.Prelude.{ℕ, List, IsTrue};
+    ghost use Rattle.gt_paths.specs.Path.{is_path};
+
+    ghost Value = { List (List ℕ) };
+
+    ghost view = { λ p. p.names.items };
+
+    ghost invariant = { λ p. IsTrue (is_path p.names.items) };
+}
+
+impl Path {
+    ghost use Rattle.gt_paths.specs.Draft.{IsDraftOf};
+
+    /// The root of a collection.
+    pub fn root(alloc: Global) -> Path
+        ensures { result ≡ [] }
+    {
+        Path {
+            names: Vec::new(alloc),
+        }
+    }
+
+    /// The number of its names.
+    pub fn names(&self) -> u32
+        ensures count { result ≡ length self.now }
+        ensures path { IsTrue (is_path self.now) }
+    {
+        self.names.len() as u32
+    }
+
+    /// The path that the text is.
+    ///
+    /// The text begins with a slash and has names between slashes; one more slash may stand at its end.
+    /// A first piece `~` stands for the names of `home`. Where the text is no path, the fault is the first of
+    /// `NotAbsolute`, `BadName`, `TooDeep` and `TooLong` that it has; the last two count the names of `home` too.
+    pub fn read(alloc: Global, text: &str, home: &Path) -> Result<Path, PathFault>
+        ensures path { IfOk result (λ path. IsTrue (is_path path)) }
+
+        // Each text has one answer, and it is given unless memory runs out.
+        ensures ok { IfOk result (λ path. read_path home.now text.now ≡ Ok path) }
+        ensures fault { IfErr result (λ fault. (fault ≡ PathFault.OutOfMemory) ⊎ (read_path home.now text.now ≡ Err fault)) }
+    {
+        let Some(rest) = text.strip_prefix('/') else {
+            return Err(PathFault::NotAbsolute);
+        };
+        let mut draft = Draft::new(alloc);
+        match behind_home(rest) {
+            Some(after) => {
+                draft.extend(alloc, &home.names)?;
+                draft.read(alloc, after, 1)?;
+            }
+            None => draft.read(alloc, rest, 0)?,
+        }
+        Path::of(draft)
+    }
+
+    /// The path that the draft is, or the limit that it passes.
+    fn of(draft: Draft) -> Result<Path, PathFault>
+        ensures path { IfOk result (λ path. IsTrue (is_path path)) }
+        ensures ok { IfOk result (λ path. (names : PathValue) → IsDraftOf draft names → limited names ≡ Ok path) }
+        ensures fault { IfErr result (λ fault. (names : PathValue) → IsDraftOf draft names → limited names ≡ Err fault) }
+    {
+        if draft.depth > MAX_NAMES {
+            return Err(PathFault::TooDeep { names: draft.depth });
+        }
+        if draft.bytes > MAX_BYTES {
+            return Err(PathFault::TooLong { bytes: draft.bytes });
+        }
+        Ok(Path { names: draft.names })
+    }
+
+    /// The text of the path: a slash before each name, and a lone one for the root.
+    pub fn print(&self, alloc: Global) -> Result<String, AllocError>
+        ensures text { IfOk result (λ text. string_bytes text ≡ printed_path self.now) }
+
+        // What is printed is read as this path, whatever the home folder.
+        ensures back { IfOk result (λ text. (home : PathValue) → read_path home (string_bytes text) ≡ Ok self.now) }
+    {
+        if self.names.is_empty() {
+            return String::from_str(alloc, "/");
+        }
+        let mut text = String::with_capacity(alloc, self.len())?;
+        for name in &self.names {
+            text.push('/')?;
+            text.push_str(name.as_str())?;
+        }
+        Ok(text)
+    }
+
+    /// The number of bytes that its names print, each with its slash.
+    fn len(&self) -> usize
+        ensures { result ≡ length (slashed self.now) }
+    {
+        self.names.iter().map(|name| name.as_str().len() + 1).sum()
+    }
+
+    /// Whether the folder's names are the first names of this path.
+    pub fn is_under(&self, folder: &Path) -> bool
+        ensures test { result ≡ is_under self.now folder.now }
+        ensures prefix { IsTrue result ↔ IsUnder self.now folder.now }
+    {
+        self.names.as_slice().starts_with(folder.names.as_slice())
+    }
+
+    /// Whether one of the two paths is under the other.
+    pub fn overlaps(&self, other: &Path) -> bool
+        ensures test { result ≡ overlaps self.now other.now }
+        ensures prefix { IsTrue result ↔ (IsUnder self.now other.now ⊎ IsUnder other.now self.now) }
+    {
+        self.is_under(other) || other.is_under(self)
+    }
+
+    /// The path of the name in this folder.
+    pub fn child(&self, alloc: Global, name: &Name) -> Result<Path, PathFault>
+        ensures path { IfOk result (λ path. IsTrue (is_path path)) }
+        ensures ok { IfOk result (λ path. (path ≡ child_path self.now name.now) × (limited (child_path self.now name.now) ≡ Ok path)) }
+        ensures fault { IfErr result (λ fault. (fault ≡ PathFault.OutOfMemory) ⊎ (limited (child_path self.now name.now) ≡ Err fault)) }
+    {
+        let mut draft = Draft::new(alloc);
+        draft.extend(alloc, &self.names)?;
+        draft.push(alloc, name.as_str())?;
+        Path::of(draft)
+    }
+
+    /// The path that is to `to` what this one is to `from`.
+    pub fn rebase(&self, alloc: Global, from: &Path, to: &Path) -> Result<Path, PathFault>
+        requires { IsTrue (is_under self.now from.now) }
+        ensures path { IfOk result (λ path. IsTrue (is_path path)) }
+        ensures ok { IfOk result (λ path. (path ≡ to.now ++ below self.now from.now) × (limited (to.now ++ below self.now from.now) ≡ Ok path)) }
+        ensures fault { IfErr result (λ fault. (fault ≡ PathFault.OutOfMemory) ⊎ (limited (to.now ++ below self.now from.now) ≡ Err fault)) }
+    {
+        let mut draft = Draft::new(alloc);
+        draft.extend(alloc, &to.names)?;
+        draft.extend(alloc, &self.names[from.names.len()..])?;
+        Path::of(draft)
+    }
+
+    /// A copy of the path.
+    pub fn copy(&self, alloc: Global) -> Result<Path, AllocError>
+        ensures { IfOk result (λ path. path ≡ self.now) }
+    {
+        let mut names = Vec::with_capacity(alloc, self.names.len())?;
+        for name in &self.names {
+            names.push(name.copy(alloc)?)?;
+        }
+        Ok(Path { names })
+    }
+}
+
+impl Clone for Path {
+    ghost is_clone = { λ p q. q ≡ p };
+
+    fn clone(&self) -> Result<Path, AllocError> {
+        Ok(Path {
+            names: self.names.clone()?,
+        })
+    }
+}
+
+impl PartialEq for Path {
+    ghost eq = { same_path };
+
+    ghost laws = { partial_equiv_from_equiv (lists_equiv nat_list_eq_equiv) };
+
+    fn eq(&self, other: &Path) -> bool {
+        self.names == other.names
+    }
+}
+
+impl Eq for Path {
+    ghost laws = { lists_equiv nat_list_eq_equiv };
+}
+
+impl PartialOrd for Path {
+    ghost partial_cmp = { as_partial_cmp path_cmp };
+
+    ghost laws = { partial_order_from_agreeing_total path_cmp (lists_total nat_list_cmp_total) (λ _ _. refl) (lists_ties (slice_cmp nat_cmp) texts_ties) };
+
+    fn partial_cmp(&self, other: &Path) -> Option<Ordering> {
+        Some(self.cmp(other))
+    }
+}
+
+impl Ord for Path {
+    ghost cmp = { path_cmp };
+
+    ghost total = { lists_total nat_list_cmp_total };
+
+    ghost matches_partial_cmp = { λ _ _. refl };
+
+    ghost matches_eq = { lists_ties (slice_cmp nat_cmp) texts_ties };
+
+    fn cmp(&self, other: &Path) -> Ordering {
+        self.names.cmp(&other.names)
+    }
+}
+
+impl Exact for Path {
+    ghost use Rattle.std.proofs.Common.{rules};
+
+    ghost exact = { Prim.search rules };
+}

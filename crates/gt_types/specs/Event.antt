@@ -1,0 +1,33 @@
+-- The forms and limits of events: what a record's text can hold.
+use Rattle.std.specs.Prelude.{Bool, nat_lt, true, ℕ, ◌&&◌, ◌^◌}
+use Rattle.gt_values.specs.Forms.{is_id, is_moment, is_u64}
+use Rattle.gt_types.specs.SpecForms.{is_access_spec, is_transfer_spec}
+use Rattle.gt_types.specs.declared.event.Event.{Event}
+use Rattle.gt_types.specs.declared.event.Happening.{Happening}
+use Rattle.gt_types.specs.declared.event.Happening.TheVariants.{AccessAdd, AccessEnd, AccessReplace, Issue, SubmitTransfer}
+
+-- whether the values of what happens are within their limits
+abbrev pub is_recordable_happening : Happening → Bool
+is_recordable_happening (Issue identity) = is_id identity
+is_recordable_happening (SubmitTransfer owner submission spec) =
+    is_id owner && is_id submission && is_transfer_spec spec
+is_recordable_happening (AccessAdd collection spec) = is_access_spec spec
+is_recordable_happening (AccessReplace rule write) = is_u64 rule
+is_recordable_happening (AccessEnd rule) = is_u64 rule
+
+-- whether each collection that is named is below the number
+abbrev pub has_collections : ℕ → Happening → Bool
+has_collections count (Issue identity) = true
+has_collections count (SubmitTransfer owner submission spec) = nat_lt spec.source count && nat_lt spec.destination count
+has_collections count (AccessAdd collection spec) = nat_lt collection count
+has_collections count (AccessReplace rule write) = true
+has_collections count (AccessEnd rule) = true
+
+-- whether the event has a text, where the collections are so many
+abbrev pub is_recordable : ℕ → Event → Bool
+is_recordable count event =
+    is_moment event.moment && has_collections count event.what && is_recordable_happening event.what
+
+-- the collections of a record are numbers of 4 bytes, whatever the setup
+abbrev pub recordable_collections : ℕ
+recordable_collections = 2 ^ 32
