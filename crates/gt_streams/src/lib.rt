@@ -1,0 +1,23 @@
+//! Bytes that come and bytes that go, through devices that may fail and count it.
+//!
+//! A `Source` gives bytes and a `Sink` takes them, both in pieces of their own choosing. `read_line`, `read_exactly` and
+//! `write_all` put the pieces together, and say of each answer which bytes were taken or written (`specs/Reading.antt`).
+//! `MemSource` and `MemSink` hold their bytes in memory, and fail at the calls that they are told to fail at.
+#![tactic(auto)]
+
+mod exact;
+mod line;
+mod mem_sink;
+mod mem_source;
+mod sink;
+mod source;
+pub mod suite;
+#[cfg(test)]
+mod tests;
+
+pub use exact::read_exactly;
+pub use line::{LineEnd, StreamFault, read_line};
+pub use mem_sink::MemSink;
+pub use mem_source::MemSource;
+pub use sink::{Partial, Sink, write_all};
+pub use source::{Failed, Source};
