@@ -3,6 +3,7 @@ pub mod Forms
 pub mod Grammar
 pub mod IdText
 pub mod Ident
+pub mod Lends
 pub mod Life
 pub mod Moment
 pub mod Reads

@@ -5,6 +5,7 @@
 #![tactic(auto)]
 
 mod bytes;
+mod clock;
 mod digest;
 mod id;
 mod moment;
@@ -16,6 +17,7 @@ mod tests;
 mod text;
 
 pub use bytes::Bytes;
+pub use clock::{Clock, FixedClock};
 pub use digest::Digest;
 pub use id::Id;
 pub use moment::{Moment, MomentFault};
