@@ -1,3 +1,6 @@
 pub mod DateLemmas
+pub mod FormLemmas
 pub mod IdLemmas
+pub mod MadeLemmas
 pub mod PrintLemmas
+pub mod RowLemmas
