@@ -3,4 +3,5 @@ pub mod FormLemmas
 pub mod IdLemmas
 pub mod MadeLemmas
 pub mod PrintLemmas
+pub mod ProfileLemmas
 pub mod RowLemmas

@@ -6,5 +6,6 @@ pub mod Ident
 pub mod Lends
 pub mod Life
 pub mod Moment
+pub mod Profile
 pub mod Reads
 pub mod Rows

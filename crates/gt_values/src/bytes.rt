@@ -95,5 +95,4 @@ impl Eq for Bytes {
 // Each element of a slice of bytes is below 256. No clause can say so of an array, and this costs nothing.
 pub(crate) fn fit(bytes: &[u8])
     ensures { is_bytes (length bytes.now) bytes.now ≡ true }
-{
-}
+{}

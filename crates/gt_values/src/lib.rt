@@ -21,7 +21,7 @@ pub use bytes::Bytes;
 pub use clock::{Clock, FixedClock};
 pub use digest::Digest;
 pub use id::Id;
-pub use laws::{four_forms, made_apart};
+pub use laws::{four_forms, made_apart, moment_profile};
 pub use moment::{Moment, MomentFault};
 pub use sequence::{Exact, Sequence};
 pub use table::Table;

@@ -1,6 +1,5 @@
-use std::test::Fail;
-
 use crate::{Bytes, Clock, Digest, FixedClock, Id, Moment, MomentFault, Sequence, Table, Text};
+use std::test::Fail;
 
 const TASK_ONE: &str = "00000007-0002-8000-8000-000000000001";
 
@@ -8,12 +7,18 @@ const TASK_ONE: &str = "00000007-0002-8000-8000-000000000001";
 fn made_identifiers(rt: HostRuntime) -> Result<(), Fail> {
     let submission = Id::made(7, 1, 1);
     let task = Id::made(7, 2, 1);
-    assert_eq!(rt; submission.print(rt.alloc())?.as_str(), "00000007-0001-8000-8000-000000000001");
+    assert_eq!(rt;
+        submission.print(rt.alloc())?.as_str(),
+        "00000007-0001-8000-8000-000000000001"
+    );
     assert_eq!(rt; task.print(rt.alloc())?.as_str(), TASK_ONE);
     assert!(rt; Id::read(TASK_ONE) == Some(task));
     assert!(rt; submission != task && submission < task);
     let last = Id::made(u32::MAX, 5, 0xffff_ffff_ffff);
-    assert_eq!(rt; last.print(rt.alloc())?.as_str(), "ffffffff-0005-8000-8000-ffffffffffff");
+    assert_eq!(rt;
+        last.print(rt.alloc())?.as_str(),
+        "ffffffff-0005-8000-8000-ffffffffffff"
+    );
     assert!(rt; Id::from_bytes(*last.as_bytes()) == last);
     Ok(())
 }
@@ -29,7 +34,11 @@ fn forms_of_an_identifier(rt: HostRuntime) -> Result<(), Fail> {
     ];
     for text in read {
         let id = Id::read(text).ok_or("refused")?;
-        assert_eq!(rt; id.print(rt.alloc())?.as_str(), "67e55044-10b1-426f-9247-bb680e5fe0c8", "{text}");
+        assert_eq!(rt;
+            id.print(rt.alloc())?.as_str(),
+            "67e55044-10b1-426f-9247-bb680e5fe0c8",
+            "{text}"
+        );
     }
     let refused = [
         "",
@@ -54,7 +63,10 @@ fn forms_of_an_identifier(rt: HostRuntime) -> Result<(), Fail> {
 fn moment_with_offset(rt: HostRuntime) -> Result<(), Fail> {
     let moment = Moment::read("1970-01-01 01:01:40.9+01:00")?;
     assert_eq!(rt; moment.seconds(), 100);
-    assert_eq!(rt; moment.print(rt.alloc())?.as_str(), "1970-01-01T00:01:40+00:00");
+    assert_eq!(rt;
+        moment.print(rt.alloc())?.as_str(),
+        "1970-01-01T00:01:40+00:00"
+    );
     let read = [
         ("1970-01-01T00:01:40", 100),
         ("1970-01-01t00:01:40z", 100),
@@ -109,7 +121,10 @@ fn texts_that_are_no_moment(rt: HostRuntime) {
 #[test]
 fn last_moment(rt: HostRuntime) -> Result<(), Fail> {
     let last = Moment::of(253_402_300_799).ok_or("none")?;
-    assert_eq!(rt; last.print(rt.alloc())?.as_str(), "9999-12-31T23:59:59+00:00");
+    assert_eq!(rt;
+        last.print(rt.alloc())?.as_str(),
+        "9999-12-31T23:59:59+00:00"
+    );
     assert!(rt; Moment::of(253_402_300_800).is_none());
     assert!(rt; Moment::zero().max(last) == last);
     assert!(rt; FixedClock(last).now() == last);
