@@ -300,6 +300,14 @@ sum_is : {number date : ℤ} {seconds time : ℕ} (east n : ℤ) → date ≡ nu
     → n ≡ number *ℤ pos 86_400 +ℤ pos seconds -ℤ east → n ≡ date *ℤ pos 86_400 +ℤ pos time -ℤ east
 sum_is east n a b e = rw (a, b) e
 
+joined : {text from_mark from_time from_fraction : List ℕ} (fraction zone : List ℕ) (y mo d mark h mi x : ℕ)
+    → text ≡ pad4 y ++ 45 ∷ pad2 mo ++ 45 ∷ pad2 d ++ from_mark
+    → from_mark ≡ mark ∷ from_time
+    → from_time ≡ pad2 h ++ 58 ∷ pad2 mi ++ 58 ∷ pad2 x ++ from_fraction
+    → from_fraction ≡ fraction ++ zone
+    → text ≡ pad4 y ++ 45 ∷ pad2 mo ++ 45 ∷ pad2 d ++ mark ∷ pad2 h ++ 58 ∷ pad2 mi ++ 58 ∷ pad2 x ++ fraction ++ zone
+joined fraction zone y mo d mark h mi x a b c e = rw (a, b, c, e) refl
+
 pub stands_writes : (text : List ℕ) (moment : ℕ) → moment_of text ≡ Some moment → WritesMoment text moment
 unfolding moment_of
 stands_writes text moment e =
@@ -324,9 +332,7 @@ stands_writes text moment e =
       fraction = f.0;
       zone = t.0;
       east = east.0;
-      text_is =
-          d.is ∙ ap (λ (l : List ℕ). pad4 d.year ++ 45 ∷ pad2 d.month ++ 45 ∷ pad2 d.day ++ l) (m.1 ∙ ap (λ (l : List ℕ). m.0 ∷ l) c.is)
-          ∙ ap (λ (l : List ℕ). pad4 d.year ++ 45 ∷ pad2 d.month ++ 45 ∷ pad2 d.day ++ m.0 ∷ pad2 c.hour ++ 58 ∷ pad2 c.minute ++ 58 ∷ pad2 c.second ++ l) f.1;
+      text_is = joined f.0 t.0 d.year d.month d.day m.0 c.hour c.minute c.second d.is m.1 c.is f.1;
       date_is = d.date_is;
       mark_is = m.2;
       time_is = c.time_is;

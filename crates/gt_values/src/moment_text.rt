@@ -1,5 +1,5 @@
 //! The readers of a moment's text. Each takes a part from the front of the bytes and gives its value and what is left.
-ghost use Rattle.std.specs.Prelude.{◌≡◌, ℕ, ◌+◌, ◌*◌, ◌<◌, ◌≤◌, length, IfSome, Some, None, option_map, pos, ◌≤ℤ◌, ◌+ℤ◌, ◌-ℤ◌, ◌*ℤ◌, neg_ℤ, unsigned_abs, if◌then◌else◌};
+ghost use Rattle.std.specs.Prelude.{◌≡◌, ◌+◌, ◌*◌, ◌<◌, ◌≤◌, length, IfSome, Some, None, option_map, pos, ◌≤ℤ◌, ◌+ℤ◌, ◌-ℤ◌, ◌*ℤ◌, neg_ℤ, unsigned_abs, if◌then◌else◌};
 ghost use Rattle.jiff_core.specs.Calendar.{days_from_civil, IsEpochDay};
 ghost use Rattle.gt_values.specs.Grammar as spec;
 ghost use Rattle.gt_values.specs.Moment.{in_range, last_moment, moment_of};

@@ -1,11 +1,10 @@
-ghost use Rattle.gt_values.specs.Rows.{changed_at, row_at};
+ghost use Rattle.gt_values.specs.Rows.{row_at};
 ghost use Rattle.std.specs.Borrow.{sem};
 ghost use Rattle.std.specs.Option.{option_copied};
-ghost use Rattle.std.specs.Prelude.{◌≡◌, ◌≤◌, ◌<◌, ◌+◌, [], ◌∷◌, ◌++◌, length, IsSome, OnOk, Some, slice_get, slice_set};
+ghost use Rattle.std.specs.Prelude.{◌≡◌, ◌≤◌, ◌<◌, ◌+◌, [], ◌∷◌, ◌++◌, length, IsSome, OnOk, Some};
 
 use std::alloc::{AllocError, Global};
 use std::marker::Model;
-use std::mem;
 
 /// Rows in order of making, with room for more that is taken before it is needed. Contracts see the rows and the number of
 /// rows that can be added without memory.
