@@ -1,3 +1,7 @@
 pub mod DateLemmas
+pub mod FormLemmas
 pub mod IdLemmas
+pub mod MadeLemmas
 pub mod PrintLemmas
+pub mod ProfileLemmas
+pub mod RowLemmas

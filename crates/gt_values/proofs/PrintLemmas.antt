@@ -21,7 +21,7 @@ use Rattle.gt_values.proofs.DateLemmas.{is_date-true}
 use Rattle.std.specs.Int.{is_in_range}
 use Rattle.std.specs.Prelude.{◌&&◌, nat_le, min}
 
-int_le-true : (a b : ℤ) → a ≤ℤ b → int_le a b ≡ true
+pub int_le-true : (a b : ℤ) → a ≤ℤ b → int_le a b ≡ true
 int_le-true a b h = grind (arith, ints)
 
 int_le-false : (a b : ℤ) → b <ℤ a → int_le a b ≡ false
@@ -116,7 +116,7 @@ printed_is m dt is =
 
 -- ---- and read back
 
-two_digits-pad2 : (n : ℕ) (rest : List ℕ) → n < 100 → two_digits (pad2 n ++ rest) ≡ Some (n, rest)
+pub two_digits-pad2 : (n : ℕ) (rest : List ℕ) → n < 100 → two_digits (pad2 n ++ rest) ≡ Some (n, rest)
 unfolding two_digits
 two_digits-pad2 n rest h =
     let digits : (is_in_range 48 57 (48 + n / 10) && is_in_range 48 57 (48 + n % 10)) ≡ true = grind (arith, nat_tests) in
@@ -131,7 +131,7 @@ four_digits-pad4 n rest h =
     let value : n / 100 * 100 + n % 100 ≡ n = omega arith in
     rw (a, b, value)
 
-date-text : (y mo d : ℕ) (rest : List ℕ) → y < 10_000 → mo < 100 → d < 100 → is_date y mo d ≡ true
+pub date-text : (y mo d : ℕ) (rest : List ℕ) → y < 10_000 → mo < 100 → d < 100 → is_date y mo d ≡ true
     → date (pad4 y ++ 45 ∷ pad2 mo ++ 45 ∷ pad2 d ++ rest) ≡ Some (days_from_civil (pos y) mo d, rest)
 unfolding date
 date-text y mo d rest a b c is =
@@ -140,16 +140,15 @@ date-text y mo d rest a b c is =
     let day = two_digits-pad2 d rest c in
     rw (year, month, day, is)
 
-clock-text : (h mi x : ℕ) (rest : List ℕ) → h ≤ 23 → mi ≤ 59 → x ≤ 59
-    → clock (pad2 h ++ 58 ∷ pad2 mi ++ 58 ∷ pad2 x ++ rest) ≡ Some (h * 3600 + mi * 60 + x, rest)
+pub clock-text : (h mi x : ℕ) (rest : List ℕ) → h ≤ 23 → mi ≤ 59 → x ≤ 60
+    → clock (pad2 h ++ 58 ∷ pad2 mi ++ 58 ∷ pad2 x ++ rest) ≡ Some (h * 3600 + mi * 60 + min x 59, rest)
 unfolding clock
 clock-text h mi x rest a b c =
     let hour = two_digits-pad2 h (58 ∷ pad2 mi ++ 58 ∷ pad2 x ++ rest) (omega arith) in
     let minute = two_digits-pad2 mi (58 ∷ pad2 x ++ rest) (omega arith) in
     let second = two_digits-pad2 x rest (omega arith) in
     let fits : (nat_le h 23 && (nat_le mi 59 && nat_le x 60)) ≡ true = grind (arith, nat_tests) in
-    let small : min x 59 ≡ x = omega arith in
-    rw (hour, minute, second, fits, small)
+    rw (hour, minute, second, fits)
 
 offset-zero : offset (codes "+00:00") ≡ Some (pos 0)
 unfolding offset hours_and_minutes two_digits
@@ -170,10 +169,11 @@ reads y mo d h mi x a b c is hour minute second =
     let clock_text = pad2 h ++ 58 ∷ pad2 mi ++ 58 ∷ pad2 x ++ codes "+00:00" in
     let first = date-text y mo d (84 ∷ clock_text) a b c is in
     let next = mark clock_text in
-    let then_ = clock-text h mi x (codes "+00:00") hour minute second in
-    rw (first, next, then_, no_fraction, offset-zero)
+    let then_ = clock-text h mi x (codes "+00:00") hour minute (omega arith) in
+    let small : min x 59 ≡ x = omega arith in
+    rw (first, next, then_, small, no_fraction, offset-zero)
 
-in_range-at : (z : ℤ) (m : ℕ) → z ≡ pos m → m ≤ 253_402_300_799 → in_range z ≡ Some m
+pub in_range-at : (z : ℤ) (m : ℕ) → z ≡ pos m → m ≤ 253_402_300_799 → in_range z ≡ Some m
 in_range-at z m is small =
     let high : int_le (pos m) (pos 253_402_300_799) ≡ true = int_le-true (pos m) (pos 253_402_300_799) (omega (arith, signed_arith)) in
     let low : nat_le 0 m ≡ true = grind (arith, nat_tests) in

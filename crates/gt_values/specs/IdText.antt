@@ -1,11 +1,50 @@
--- What a text stands for as an identifier: one of the four forms of a UUID (RFC 9562 and its common spellings).
+-- What a text stands for as an identifier, and how one is printed: the four spellings of a UUID (RFC 9562, section 4).
 use Rattle.std.specs.List.{starts_with}
-use Rattle.std.specs.Prelude.{All, Bool, List, None, Option, drop, length, map, nat_eq, nat_le, not, take, ℕ, if◌then◌else◌, ◌&&◌, ◌+◌, ◌<◌, ◌==◌, ◌≡◌, ◌⊎◌}
-use Rattle.uuid.specs.Text.{braced_text, hyphenated_text, lower, parsed, simple_text, urn_prefix}
+use Rattle.std.specs.Prelude.{All, Bool, List, None, Option, Some, [], codes, drop, length, map, nat_eq, nat_le, nat_lt, not, take, ℕ, if◌then◌else◌, ◌%◌, ◌&&◌, ◌+◌, ◌++◌, ◌/◌, ◌<◌, ◌==◌, ◌↔◌, ◌≡◌, ◌⊎◌, ◌∷◌}
+use Rattle.uuid.specs.Text.{parsed}
 
--- the text has the length of the urn form and doesn't begin with `urn:uuid:` in lower case
+-- the hexadecimal digit of a number below 16, in lower case
+abbrev pub digit_of : ℕ → ℕ
+digit_of n = if nat_lt n 10 then 48 + n else 87 + n
+
+-- two digits for each byte
+abbrev pub digits_of : List ℕ → List ℕ
+digits_of [] = []
+digits_of (byte ∷ bytes) = digit_of (byte / 16) ∷ digit_of (byte % 16) ∷ digits_of bytes
+
+-- thirty-two digits in groups of 8, 4, 4, 4 and 12, with hyphens between them
+abbrev pub hyphenated : List ℕ → List ℕ
+hyphenated digits =
+    take 8 digits ++ 45 ∷ take 4 (drop 8 digits) ++ 45 ∷ take 4 (drop 12 digits) ++ 45 ∷ take 4 (drop 16 digits)
+    ++ 45 ∷ drop 20 digits
+
+-- an identifier as it is printed: hyphenated, in lower case
+unfoldable pub printed_id : List ℕ → List ℕ
+printed_id id = hyphenated (digits_of id)
+
+-- a letter from A to F in lower case, and any other byte as it is
+abbrev pub small : ℕ → ℕ
+small c = if nat_le 65 c && nat_le c 70 then c + 32 else c
+
+-- what stands before the hyphenated form in the form of a URN
+abbrev pub urn : List ℕ
+urn = codes "urn:uuid:"
+
+-- the text writes the identifier in one of the four forms, with digits of either case
+pub record Writes (text id : List ℕ) : Type 0 where
+  pub sixteen : length id ≡ 16
+  pub bytes : All (λ byte. byte < 256) id
+  pub digits : List ℕ
+  pub spelled : map small digits ≡ digits_of id
+  pub form :
+      (text ≡ hyphenated digits)
+      ⊎ (text ≡ digits)
+      ⊎ (text ≡ 123 ∷ hyphenated digits ++ 125 ∷ [])
+      ⊎ (text ≡ urn ++ hyphenated digits)
+
+-- the text is as long as the URN form and doesn't begin with `urn:uuid:` in lower case
 abbrev pub opens_otherwise : List ℕ → Bool
-opens_otherwise text = (length text == 45) && not (starts_with nat_eq text urn_prefix)
+opens_otherwise text = (length text == 45) && not (starts_with nat_eq text urn)
 
 -- no answer, or this one
 abbrev pub unless : Bool → Option (List ℕ) → Option (List ℕ)
@@ -15,24 +54,6 @@ unless refused answer = if refused then None else answer
 unfoldable pub id_of : List ℕ → Option (List ℕ)
 id_of text = unless (opens_otherwise text) (parsed text)
 
--- an identifier as it is printed: hyphenated, in lower case
-abbrev pub printed_id : List ℕ → List ℕ
-printed_id id = hyphenated_text lower id
-
--- a letter from A to F in lower case, and any other byte as it is
-abbrev pub small_hex : ℕ → ℕ
-small_hex c = if nat_le 65 c && nat_le c 70 then c + 32 else c
-
--- a text with its letters from A to F in lower case
-abbrev pub small_hexes : List ℕ → List ℕ
-small_hexes text = map small_hex text
-
--- the text writes the sixteen bytes in one of the four forms: hyphenated, without hyphens, hyphenated in braces, or
--- hyphenated after `urn:uuid:`
-abbrev pub Writes : List ℕ → List ℕ → Type 0
-Writes text id =
-    (length id ≡ 16) × All (λ b. b < 256) id
-    × ((small_hexes text ≡ hyphenated_text lower id)
-    ⊎ (small_hexes text ≡ simple_text lower id)
-    ⊎ (small_hexes text ≡ braced_text lower id)
-    ⊎ ((take 9 text ≡ urn_prefix) × (small_hexes (drop 9 text) ≡ hyphenated_text lower id)))
+-- a text stands for an identifier exactly where it writes it in one of the four forms
+abbrev pub FourForms : Type 0
+FourForms = (text id : List ℕ) → (id_of text ≡ Some id) ↔ Writes text id

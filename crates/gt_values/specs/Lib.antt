@@ -3,7 +3,9 @@ pub mod Forms
 pub mod Grammar
 pub mod IdText
 pub mod Ident
+pub mod Lends
 pub mod Life
 pub mod Moment
+pub mod Profile
 pub mod Reads
 pub mod Rows

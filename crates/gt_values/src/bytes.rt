@@ -1,6 +1,7 @@
+ghost use Rattle.gt_values.specs.Forms.{is_bytes};
 ghost use Rattle.std.specs.Cmp;
 ghost use Rattle.std.specs.Cmp.Lexicographic.{nat_list_eq_equiv};
-ghost use Rattle.std.specs.Prelude.{◌≡◌, ◌==◌, length};
+ghost use Rattle.std.specs.Prelude.{◌≡◌, ◌==◌, length, true};
 ghost use Rattle.std.specs.Str.{bytes_eq};
 
 use crate::sequence::Exact;
@@ -39,9 +40,12 @@ impl Bytes {
 
     /// The bytes, in order.
     pub fn as_slice(&self) -> &[u8]
-        ensures { result.now ≡ self.now }
+        ensures value { result.now ≡ self.now }
+        ensures fits { is_bytes (length self.now) self.now ≡ true }
     {
-        self.bytes.as_slice()
+        let bytes = self.bytes.as_slice();
+        fit(bytes);
+        bytes
     }
 
     /// How many bytes there are.
@@ -87,3 +91,8 @@ impl PartialEq for Bytes {
 impl Eq for Bytes {
     ghost laws = { nat_list_eq_equiv };
 }
+
+// Each element of a slice of bytes is below 256. No clause can say so of an array, and this costs nothing.
+pub(crate) fn fit(bytes: &[u8])
+    ensures { is_bytes (length bytes.now) bytes.now ≡ true }
+{}

@@ -1,5 +1,7 @@
-ghost use Rattle.std.specs.Prelude.{◌≡◌};
+ghost use Rattle.gt_values.specs.Forms.{is_digest};
+ghost use Rattle.std.specs.Prelude.{◌≡◌, true};
 
+use crate::bytes;
 use crate::sequence::Exact;
 use std::marker::Model;
 
@@ -29,8 +31,10 @@ impl Digest {
 
     /// The bytes of the digest.
     pub fn as_bytes(&self) -> &[u8; 32]
-        ensures { result.now ≡ self.now }
+        ensures value { result.now ≡ self.now }
+        ensures fits { is_digest self.now ≡ true }
     {
+        bytes::fit(&self.bytes);
         &self.bytes
     }
 }

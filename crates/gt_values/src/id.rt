@@ -1,8 +1,10 @@
+ghost use Rattle.gt_values.specs.Forms.{is_id};
 ghost use Rattle.gt_values.specs.IdText as spec;
 ghost use Rattle.gt_values.specs.IdText.{id_of, printed_id};
 ghost use Rattle.gt_values.specs.Ident.{made_id};
-ghost use Rattle.std.specs.Prelude.{◌≡◌, ◌<◌, ◌^◌, IfOk, Some, string_bytes};
+ghost use Rattle.std.specs.Prelude.{◌≡◌, ◌<◌, ◌^◌, IfOk, Some, string_bytes, true};
 
+use crate::bytes;
 use crate::sequence::Exact;
 use std::alloc::{AllocError, Global};
 use std::marker::Model;
@@ -74,9 +76,12 @@ impl Id {
 
     /// The sixteen bytes of the identifier.
     pub fn as_bytes(&self) -> &[u8; 16]
-        ensures { result.now ≡ self.now }
+        ensures value { result.now ≡ self.now }
+        ensures fits { is_id self.now ≡ true }
     {
-        self.inner.as_bytes()
+        let bytes = self.inner.as_bytes();
+        bytes::fit(bytes);
+        bytes
     }
 }
 

@@ -5,8 +5,10 @@
 #![tactic(auto)]
 
 mod bytes;
+mod clock;
 mod digest;
 mod id;
+mod laws;
 mod moment;
 mod moment_text;
 mod sequence;
@@ -16,8 +18,10 @@ mod tests;
 mod text;
 
 pub use bytes::Bytes;
+pub use clock::{Clock, FixedClock};
 pub use digest::Digest;
 pub use id::Id;
+pub use laws::{four_forms, made_apart, moment_profile};
 pub use moment::{Moment, MomentFault};
 pub use sequence::{Exact, Sequence};
 pub use table::Table;

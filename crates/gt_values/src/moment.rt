@@ -12,6 +12,9 @@ use std::alloc::{AllocError, Global};
 use std::marker::Model;
 use thiserror::Error;
 
+/// The seconds of the last moment, 9999-12-31T23:59:59Z.
+pub(crate) const LAST: u64 = 253_402_300_799;
+
 /// Why a text is no moment.
 #[derive(Clone, Copy, Debug, PartialEq, Eq, Error)]
 pub enum MomentFault {
@@ -40,14 +43,11 @@ impl Model for Moment {
 }
 
 impl Moment {
-    /// The last moment, 9999-12-31T23:59:59Z, in seconds.
-    const LAST: u64 = 253_402_300_799;
-
     /// The moment so many seconds after 1970-01-01T00:00:00Z, if it is in range.
     pub fn of(seconds: u64) -> Option<Moment>
         ensures { result ≡ (if nat_le seconds last_moment then Some seconds else None) }
     {
-        if seconds <= Self::LAST {
+        if seconds <= LAST {
             Some(Moment { seconds })
         } else {
             None

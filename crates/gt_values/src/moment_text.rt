@@ -1,10 +1,11 @@
-//! The readers of a moment's text. Each takes the front of a slice, and gives the value and the rest.
-ghost use Rattle.std.specs.Prelude.{◌≡◌, ℕ, ◌+◌, ◌*◌, ◌<◌, ◌≤◌, length, IfSome, Some, None, option_map, pos, ◌≤ℤ◌, ◌+ℤ◌, ◌-ℤ◌, ◌*ℤ◌, neg_ℤ, unsigned_abs, if◌then◌else◌};
+//! The readers of a moment's text. Each takes a part from the front of the bytes and gives its value and what is left.
+ghost use Rattle.std.specs.Prelude.{◌≡◌, ◌+◌, ◌*◌, ◌<◌, ◌≤◌, length, IfSome, Some, None, option_map, pos, ◌≤ℤ◌, ◌+ℤ◌, ◌-ℤ◌, ◌*ℤ◌, neg_ℤ, unsigned_abs, if◌then◌else◌};
 ghost use Rattle.jiff_core.specs.Calendar.{days_from_civil, IsEpochDay};
 ghost use Rattle.gt_values.specs.Grammar as spec;
-ghost use Rattle.gt_values.specs.Moment.{in_range, moment_of};
+ghost use Rattle.gt_values.specs.Moment.{in_range, last_moment, moment_of};
 ghost use Rattle.gt_values.specs.Reads.{rest_view, read_view};
 
+use crate::moment::LAST;
 use jiff::civil::Date;
 
 // The text after this byte.
@@ -17,6 +18,7 @@ fn after(s: &[u8], byte: u8) -> Option<&[u8]>
     }
 }
 
+// A number of two digits.
 #[tactic(auto, unfolding(crate::specs::Grammar::two_digits))]
 fn two_digits(s: &[u8]) -> Option<(u8, &[u8])>
     ensures value { read_view result ≡ spec.two_digits s.now }
@@ -30,6 +32,7 @@ fn two_digits(s: &[u8]) -> Option<(u8, &[u8])>
     }
 }
 
+// A number of four digits.
 #[tactic(auto, unfolding(crate::specs::Grammar::four_digits))]
 fn four_digits(s: &[u8]) -> Option<(u16, &[u8])>
     ensures value { read_view result ≡ spec.four_digits s.now }
@@ -54,7 +57,7 @@ fn day_number(year: u16, month: u8, day: u8) -> Option<i32>
     }
 }
 
-// YYYY-MM-DD.
+// YYYY-MM-DD, as a day number.
 #[tactic(auto, unfolding(crate::specs::Grammar::date))]
 fn date(s: &[u8]) -> Option<(i32, &[u8])>
     ensures value { read_view result ≡ spec.date s.now }
@@ -68,7 +71,7 @@ fn date(s: &[u8]) -> Option<(i32, &[u8])>
     Some((day_number(year, month, day)?, s))
 }
 
-// hh:mm:ss.
+// hh:mm:ss, as seconds since midnight. A second of 60 counts as 59.
 #[tactic(auto, unfolding(crate::specs::Grammar::clock))]
 fn clock(s: &[u8]) -> Option<(u32, &[u8])>
     ensures value { read_view result ≡ spec.clock s.now }
@@ -99,6 +102,7 @@ fn after_mark(s: &[u8]) -> Option<&[u8]>
     }
 }
 
+// How many digits stand at the front.
 fn digits(s: &[u8]) -> usize
     ensures value { result ≡ spec.digits s.now }
     ensures within { result ≤ length s.now }
@@ -123,7 +127,7 @@ fn after_fraction(s: &[u8]) -> Option<&[u8]>
     }
 }
 
-// hh:mm to the end.
+// hh:mm to the end of the text, in seconds.
 #[tactic(auto, unfolding(crate::specs::Grammar::hours_and_minutes))]
 fn hours_and_minutes(s: &[u8]) -> Option<i32>
     ensures value { option_map unsigned_abs result ≡ spec.hours_and_minutes s.now }
@@ -138,7 +142,7 @@ fn hours_and_minutes(s: &[u8]) -> Option<i32>
     Some(hour as i32 * 3600 + minute as i32 * 60)
 }
 
-// The offset, to the end.
+// The offset to the end of the text, in seconds east of UTC.
 #[tactic(auto, unfolding(crate::specs::Grammar::offset))]
 fn offset(s: &[u8]) -> Option<i32>
     ensures value { result ≡ spec.offset s.now }
@@ -152,12 +156,12 @@ fn offset(s: &[u8]) -> Option<i32>
     }
 }
 
-// Those of a moment.
+// The seconds, if they are those of a moment.
 fn in_range(seconds: i64) -> Option<u64>
     ensures value { result ≡ in_range seconds }
-    ensures bound { IfSome result (λ n. n ≤ 253_402_300_799) }
+    ensures bound { IfSome result (λ n. n ≤ last_moment) }
 {
-    if seconds >= 0 && seconds <= 253_402_300_799 {
+    if seconds >= 0 && seconds <= LAST as i64 {
         Some(seconds as u64)
     } else {
         None
@@ -178,7 +182,7 @@ fn seconds_at(day: i32, time: u32, east: i32) -> i64
 #[tactic(auto, unfolding(crate::specs::Moment::moment_of))]
 pub(crate) fn seconds(s: &[u8]) -> Option<u64>
     ensures value { result ≡ moment_of s.now }
-    ensures bound { IfSome result (λ n. n ≤ 253_402_300_799) }
+    ensures bound { IfSome result (λ n. n ≤ last_moment) }
 {
     let (day, s) = date(s)?;
     let s = after_mark(s)?;

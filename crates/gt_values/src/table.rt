@@ -1,10 +1,10 @@
-ghost use Rattle.gt_values.specs.Rows.{changed_at, row_at};
+ghost use Rattle.gt_values.specs.Rows.{row_at};
+ghost use Rattle.std.specs.Borrow.{sem};
 ghost use Rattle.std.specs.Option.{option_copied};
-ghost use Rattle.std.specs.Prelude.{◌≡◌, ◌≤◌, ◌<◌, ◌+◌, [], ◌∷◌, ◌++◌, length, OnOk, Some, slice_get, slice_set};
+ghost use Rattle.std.specs.Prelude.{◌≡◌, ◌≤◌, ◌<◌, ◌+◌, [], ◌∷◌, ◌++◌, length, IsSome, OnOk, Some};
 
 use std::alloc::{AllocError, Global};
 use std::marker::Model;
-use std::mem;
 
 /// Rows in order of making, with room for more that is taken before it is needed. Contracts see the rows and the number of
 /// rows that can be added without memory.
@@ -28,6 +28,8 @@ impl<T> Model for Table<T> {
 }
 
 impl<T> Table<T> {
+    ghost use Rattle.gt_values.specs.Lends.{LendsRow};
+
     /// A table with no row. Takes no memory.
     pub fn new(alloc: Global) -> Table<T>
         ensures { result.rows ≡ [] }
@@ -60,14 +62,23 @@ impl<T> Table<T> {
         self.items.reserve(more as usize)
     }
 
-    /// Puts a row in the place of another, which is given back. Takes no memory.
-    pub fn replace(&mut self, at: usize, row: T) -> T
-        requires { at < length self.old.rows }
-        ensures old { slice_get self.old.rows at ≡ Some result }
-        ensures rows { self.new.rows ≡ slice_set self.old.rows at row }
-        ensures spare { self.new.spare ≡ self.old.spare }
+    /// The row of this number, if there is one.
+    pub fn row(&self, number: u64) -> Option<&T>
+        ensures { option_copied result ≡ row_at self.now.rows number }
     {
-        mem::replace(&mut self.items[at], row)
+        if number == 0 {
+            return None;
+        }
+        self.items.get(number as usize - 1)
+    }
+
+    /// The row of this number, to be changed where it stands. Takes no memory.
+    pub fn row_mut(&mut self, number: u64) -> &mut T
+        requires { IsSome (row_at self.old.rows number) }
+        ensures* writes_back { sem 𝓛 (LendsRow T.row self.entry number result) }
+        ensures row { row_at self.old.rows number ≡ Some result.now }
+    {
+        &mut self.items[number as usize - 1]
     }
 }
 
