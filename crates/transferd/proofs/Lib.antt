@@ -1,0 +1,6 @@
+pub mod LineTexts
+pub mod Fronts
+pub mod Readings
+pub mod ExitLaw
+pub mod Runs
+pub mod Endings
