@@ -1,6 +1,6 @@
-pub mod LineTexts
-pub mod Fronts
-pub mod Readings
-pub mod ExitLaw
-pub mod Runs
-pub mod Endings
+pub mod LineTextLemmas
+pub mod FrontLemmas
+pub mod ReadingLemmas
+pub mod ExitLemmas
+pub mod RunLemmas
+pub mod EndingLemmas

@@ -3,6 +3,7 @@ pub mod World
 pub mod Script
 pub mod Run
 pub mod Output
-pub mod Progress
+pub mod Endings
 pub mod Exits
+pub mod Progress
 pub mod MainTheorem

@@ -1,6 +1,7 @@
 -- The main theorem: what a script reads and prints is that of one run of its lines, whenever it stops.
 use Rattle.std.specs.Prelude.{List}
-use Rattle.transferd.specs.Exits.{Bytes, EndsAs}
+use Rattle.transferd.specs.Endings.{Bytes}
+use Rattle.transferd.specs.Exits.{EndsAs}
 use Rattle.transferd.specs.Run.{Played, ScriptRun, world_at}
 use Rattle.transferd.specs.World.{Taken, World, WorldRun, empty_world}
 use Rattle.transferd.specs.declared.exit.Exit.{Exit}

@@ -1,6 +1,6 @@
 -- What the code has done of a script so far.
 use Rattle.std.specs.Prelude.{IsTrue, List, length, take, ◌++◌, ◌<◌, ◌≡◌, ℕ}
-use Rattle.transferd.specs.Exits.{Bytes}
+use Rattle.transferd.specs.Endings.{Bytes}
 use Rattle.transferd.specs.Output.{line_output, out_text}
 use Rattle.transferd.specs.Run.{IsUnended, Makes, Played, ScriptRun, lines_of, world_at}
 use Rattle.transferd.specs.Script.{ScriptText}

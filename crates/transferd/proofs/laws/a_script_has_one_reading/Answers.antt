@@ -1,4 +1,4 @@
-use Rattle.transferd.proofs.ExitLaw.{one_exit, one_reading}
+use Rattle.transferd.proofs.ExitLemmas.{one_exit, one_reading}
 use Rattle.transferd.proofs.laws.a_script_has_one_reading.Goals as goal
 
 pub returns-clause-reading : goal.returns-clause-reading

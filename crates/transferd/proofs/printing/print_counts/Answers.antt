@@ -1,4 +1,4 @@
-use Rattle.std.proofs.Common.{length, rules, subst, take, ◌++◌, ◌<◌, ◌∙◌, ◌≡◌, ℕ}
+use Rattle.std.proofs.Common.{length, subst, take, ◌++◌, ◌<◌, ◌∙◌, ◌≡◌, ℕ}
 use Rattle.transferd.proofs.printing.print_counts.Goals as goal
 use Rattle.transferd.specs.Output.{count_text}
 

@@ -1,11 +1,11 @@
-use Rattle.std.proofs.Common.{Err, IsErrOf, IsTrue, [], ap, arith, inl, inr, refl, rules, subst, sym, ◌+◌, ◌∙◌, ◌≡◌, ◌≢◌, ◌≤◌, ℕ}
-use Rattle.transferd.proofs.Endings.{begun, broke_off, done, gave_up, more, refused, stopped}
-use Rattle.transferd.proofs.Fronts.{full_script}
+use Rattle.std.proofs.Common.{Err, IsErrOf, IsTrue, [], ap, arith, refl, rules, subst, sym, ◌∙◌, ◌≡◌, ◌≢◌, ◌≤◌, ℕ}
+use Rattle.transferd.proofs.EndingLemmas.{begun, broke_off, done, gave_up, more, refused, stopped}
+use Rattle.transferd.proofs.FrontLemmas.{full_script}
 use Rattle.transferd.proofs.script.run_script.Goals as goal
-use Rattle.transferd.specs.Exits.{Bytes}
+use Rattle.transferd.specs.Endings.{Bytes}
 use Rattle.transferd.specs.MainTheorem.{Ran}
 use Rattle.transferd.specs.Progress.{RanLine, StoppedLine}
-use Rattle.transferd.specs.Script.{BeginsNoLine, BeginsWith, BreaksOff, most_script_bytes}
+use Rattle.transferd.specs.Script.{BeginsWith, most_script_bytes}
 use Rattle.transferd.specs.World.{empty_world}
 use Rattle.transferd.specs.declared.exit.Exit.TheVariants.{ScriptRefused}
 use Rattle.transferd.specs.declared.line.Line.TheVariants.{End}

@@ -1,6 +1,6 @@
-use Rattle.transferd.proofs.ExitLaw.{exit_of_ran}
+use Rattle.transferd.proofs.ExitLemmas.{exit_of_ran}
 use Rattle.transferd.proofs.top.script_top.Goals as goal
-use Rattle.transferd.specs.Exits.{Bytes}
+use Rattle.transferd.specs.Endings.{Bytes}
 use Rattle.transferd.specs.World.{empty_world}
 
 pub returns-then-are_script_words-clause-exact : goal.returns-then-are_script_words-clause-exact

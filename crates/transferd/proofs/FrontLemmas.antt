@@ -1,7 +1,7 @@
 -- Where no line stands at the front of some bytes.
 use Rattle.gt_streams.specs.Reading.{HasNoNewline}
 use Rattle.std.proofs.Common.{List, [], ap, append-nil, append_assoc, arith, length, length-append, refl, subst, sym, ◌++◌, ◌+◌, ◌<◌, ◌∙◌, ◌∷◌, ◌≡◌, ◌≤◌, ℕ}
-use Rattle.transferd.proofs.LineTexts.{command_of}
+use Rattle.transferd.proofs.LineTextLemmas.{command_of}
 use Rattle.transferd.specs.Script.{BeginsNoLine, BeginsWith, IsTextOf, most_script_bytes}
 use Rattle.transferd.specs.declared.line.Line.{Line}
 

@@ -1,13 +1,14 @@
 -- How a script's run goes on, and how it ends.
 use Rattle.std.proofs.Common.{IsTrue, List, [], ap, append-nil, append_assoc, arith, inl, inr, length, length-append, refl, subst, sym, take, ⊎_elim, ◌++◌, ◌+◌, ◌<◌, ◌∙◌, ◌∷◌, ◌≡◌, ◌≢◌, ◌≤◌, ◌⊎◌, ℕ}
-use Rattle.transferd.proofs.Readings.{ends_behind, script_text_more}
-use Rattle.transferd.proofs.Runs.{lines_of_more, out_text_more, script_run_more, unended_more, world_at_more}
-use Rattle.transferd.specs.Exits.{Bytes, EndsAs, Gave, StopsPrinting, StopsReading}
+use Rattle.transferd.proofs.ReadingLemmas.{ends_behind, script_text_more}
+use Rattle.transferd.proofs.RunLemmas.{lines_of_more, out_text_more, script_run_more, unended_more, world_at_more}
+use Rattle.transferd.specs.Endings.{Bytes, Gave, StopsPrinting, StopsReading}
+use Rattle.transferd.specs.Exits.{EndsAs}
 use Rattle.transferd.specs.MainTheorem.{Ran}
 use Rattle.transferd.specs.Output.{line_output, out_text}
 use Rattle.transferd.specs.Progress.{Progress, RanLine, StoppedLine}
 use Rattle.transferd.specs.Run.{IsUnended, Played, ScriptRun, lines_of}
-use Rattle.transferd.specs.Script.{BeginsNoLine, BeginsWith, BreaksOff, EndsBehind, Reads, ScriptText, most_script_bytes}
+use Rattle.transferd.specs.Script.{BeginsNoLine, BeginsWith, BreaksOff, EndsBehind, ScriptText, most_script_bytes}
 use Rattle.transferd.specs.World.{World, WorldRun, world_after}
 use Rattle.transferd.specs.declared.exit.Exit.{Exit}
 use Rattle.transferd.specs.declared.exit.Exit.TheVariants.{Done, OutOfMemory, ScriptRefused, SinkFault, SourceFault}
@@ -31,12 +32,15 @@ module _ (start now : World) (number taken : ℕ) (script out : Bytes) (so_far :
   gave : taken ≤ most_script_bytes → IsTrue script.told → (off : BreaksOff taken script.after after)
       → (beyond : List ℕ) × (given : Gave (lines_of so_far.run) (record script { after = after }) beyond) × EndsBehind (lines_of so_far.run) given.taken
   gave fits t off =
-      let (text, is, whole, size) = so_far.read t in
-      (off.gone, record {
-        taken = text ++ off.gone;
-        whole = whole ∙ ap (λ s. text ++ s) off.whole ∙ sym (append_assoc text off.gone after);
-        reads = record { text = text; is_text = is; whole = refl; fits = omega (arith, fits, size) };
-      }, ends_behind (lines_of so_far.run) text off.gone is (subst (λ n. BeginsNoLine n off.gone) (sym size) off.unfinished))
+      let (text, is, whole, size) = so_far.read t in (
+        off.gone,
+        record {
+          taken = text ++ off.gone;
+          whole = whole ∙ ap (λ s. text ++ s) off.whole ∙ sym (append_assoc text off.gone after);
+          reads = record { text = text; is_text = is; whole = refl; fits = omega (arith, fits, size) };
+        },
+        ends_behind (lines_of so_far.run) text off.gone is (subst (λ n. BeginsNoLine n off.gone) (sym size) off.unfinished),
+      )
 
   -- no line stands there
   pub refused : taken ≤ most_script_bytes → (IsTrue script.told → BeginsNoLine taken script.after) → (IsTrue script.told → BreaksOff taken script.after after)
@@ -74,10 +78,12 @@ module _ (start now : World) (number taken : ℕ) (script out : Bytes) (so_far :
     longer : IsTrue script.told → (text : List ℕ) × ScriptText (lines_of so_far.run ++ line ∷ []) text × (script.before ≡ text ++ after) × (length text ≡ through)
     longer t =
         let (text, so_read, whole, size) = so_far.read t in
-        let here = is t in
-        (text ++ here.text, script_text_more (lines_of so_far.run) line text here.text so_read here.is_text,
-        whole ∙ ap (λ s. text ++ s) here.whole ∙ sym (append_assoc text here.text after),
-        omega (arith, length-append text here.text, size, here.count))
+        let here = is t in (
+          text ++ here.text,
+          script_text_more (lines_of so_far.run) line text here.text so_read here.is_text,
+          whole ∙ ap (λ s. text ++ s) here.whole ∙ sym (append_assoc text here.text after),
+          omega (arith, length-append text here.text, size, here.count),
+        )
 
     gave_all : IsTrue script.told → Gave (lines_of so_far.run ++ line ∷ []) (record script { after = after }) []
     gave_all t =

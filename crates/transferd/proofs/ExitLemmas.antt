@@ -1,8 +1,9 @@
 -- A script comes to one exit where nothing fails.
-use Rattle.std.proofs.Common.{IsTrue, List, [], ap, inl, inr, append-nil, append_assoc, refl, subst, sym, ⊎_elim, length, ◌++◌, ◌+◌, ◌∙◌, ◌∷◌, ◌≡◌, ◌≢◌, ◌⊎◌, ℕ}
-use Rattle.transferd.proofs.Readings.{one_front, reads_front}
-use Rattle.transferd.proofs.Runs.{length-lines_of}
-use Rattle.transferd.specs.Exits.{Bytes, ExitFor, IsUnlessFault}
+use Rattle.std.proofs.Common.{IsTrue, List, [], ap, inl, inr, append-nil, append_assoc, refl, subst, sym, ⊎_elim, length, ◌++◌, ◌+◌, ◌∙◌, ◌∷◌, ◌≡◌, ◌⊎◌, ℕ}
+use Rattle.transferd.proofs.ReadingLemmas.{one_front, reads_front}
+use Rattle.transferd.proofs.RunLemmas.{length-lines_of}
+use Rattle.transferd.specs.Endings.{Bytes}
+use Rattle.transferd.specs.Exits.{ExitFor, IsUnlessFault}
 use Rattle.transferd.specs.MainTheorem.{Ran}
 use Rattle.transferd.specs.Run.{IsEnded, IsUnended, lines_of}
 use Rattle.transferd.specs.Script.{EndsBehind, Reads}
@@ -35,9 +36,9 @@ done_or_refused lines others bytes after behind one (before, start, ended) two u
     ⊎_elim
     (λ (more, same). ended_inside before more (subst IsUnended (same ∙ ap (λ ls. ls ++ more) ended) unended))
     (λ (more, same).
-        let none : more ≡ [] = nothing_more others more bytes after ends (subst (λ ls. Reads ls bytes after) same one) in
-        let equal : others ≡ before ++ End ∷ [] ++ [] = sym (append-nil others) ∙ ap (λ ls. others ++ ls) (sym none) ∙ sym same ∙ ended ∙ sym (append-nil (before ++ End ∷ [])) in
-        ended_inside before [] (subst IsUnended equal unended))
+    let none : more ≡ [] = nothing_more others more bytes after ends (subst (λ ls. Reads ls bytes after) same one) in
+    let equal : others ≡ before ++ End ∷ [] ++ [] = sym (append-nil others) ∙ ap (λ ls. others ++ ls) (sym none) ∙ sym same ∙ ended ∙ sym (append-nil (before ++ End ∷ [])) in
+    ended_inside before [] (subst IsUnended equal unended))
     (one_reading lines others bytes after behind one two)
 
 -- two readings that no line follows have the same number of lines
@@ -45,11 +46,11 @@ same_number : (lines others : List Line) (bytes after behind : List ℕ) → Rea
 same_number lines others bytes after behind one ends two stops =
     ⊎_elim
     (λ (more, same).
-        let none : more ≡ [] = nothing_more lines more bytes behind ends (subst (λ ls. Reads ls bytes behind) same two) in
-        ap length (sym (same ∙ ap (λ ls. lines ++ ls) none ∙ append-nil lines)))
+    let none : more ≡ [] = nothing_more lines more bytes behind ends (subst (λ ls. Reads ls bytes behind) same two) in
+    ap length (sym (same ∙ ap (λ ls. lines ++ ls) none ∙ append-nil lines)))
     (λ (more, same).
-        let none : more ≡ [] = nothing_more others more bytes after stops (subst (λ ls. Reads ls bytes after) same one) in
-        ap length (same ∙ ap (λ ls. others ++ ls) none ∙ append-nil others))
+    let none : more ≡ [] = nothing_more others more bytes after stops (subst (λ ls. Reads ls bytes after) same one) in
+    ap length (same ∙ ap (λ ls. others ++ ls) none ∙ append-nil others))
     (one_reading lines others bytes after behind one two)
 
 pub one_exit : (bytes : List ℕ) (exit other : Exit) → ExitFor bytes exit → ExitFor bytes other → exit ≡ other
@@ -87,8 +88,14 @@ exit_of_ran start script out Done ran told exit is =
     inl (one_exit script.before Done exit (lines_of ran.run, script.after, reads_before (lines_of ran.run) script.before given.taken [] script.after given.whole given.reads, ran.ending.ended) is)
 exit_of_ran start script out (ScriptRefused n) ran told exit is =
     let ((beyond, given), ends) = ran.ending.read told in
-    inl (one_exit script.before (ScriptRefused n) exit (lines_of ran.run, beyond ++ script.after, reads_before (lines_of ran.run) script.before given.taken beyond script.after given.whole given.reads, ran.ending.unended, ends,
-        ran.ending.count ∙ ap (λ (k : ℕ). k + 1) (length-lines_of ran.run)) is)
+    inl (one_exit script.before (ScriptRefused n) exit (
+      lines_of ran.run,
+      beyond ++ script.after,
+      reads_before (lines_of ran.run) script.before given.taken beyond script.after given.whole given.reads,
+      ran.ending.unended,
+      ends,
+      ran.ending.count ∙ ap (λ (k : ℕ). k + 1) (length-lines_of ran.run),
+    ) is)
 exit_of_ran start script out Usage ran told exit is = absurd ran.ending
 exit_of_ran start script out SourceFault ran told exit is = inr (inl refl)
 exit_of_ran start script out SinkFault ran told exit is = inr (inr (inl refl))

@@ -1,7 +1,7 @@
 -- A script has one reading.
-use Rattle.std.proofs.Common.{List, [], ap, append-nil, append_assoc, arith, inl, inr, length, length-append, refl, subst, sym, ⊎_elim, ◌++◌, ◌+◌, ◌∙◌, ◌∷◌, ◌≡◌, ◌≤◌, ◌⊎◌, ℕ}
-use Rattle.transferd.proofs.LineTexts.{one_text}
-use Rattle.transferd.specs.Script.{BeginsNoLine, EndsBehind, IsTextOf, Reads, ScriptText, most_script_bytes}
+use Rattle.std.proofs.Common.{List, [], ap, append-nil, append_assoc, arith, inl, inr, length, length-append, refl, sym, ⊎_elim, ◌++◌, ◌+◌, ◌∙◌, ◌∷◌, ◌≡◌, ◌⊎◌, ℕ}
+use Rattle.transferd.proofs.LineTextLemmas.{one_text}
+use Rattle.transferd.specs.Script.{BeginsNoLine, EndsBehind, IsTextOf, Reads, ScriptText}
 use Rattle.transferd.specs.declared.line.Line.{Line}
 
 -- one line more
@@ -33,13 +33,15 @@ split_text (line ∷ rest) more text (first, others, is, so_far, whole) =
 -- the same, of a reading
 pub reads_front : (lines more : List Line) (bytes after : List ℕ) → Reads (lines ++ more) bytes after → (behind : List ℕ) × Reads lines bytes behind
 reads_front lines more bytes after reads =
-    let s = split_text lines more reads.text reads.is_text in
-    (s.back ++ after, record {
-      text = s.front;
-      is_text = s.is_front;
-      whole = reads.whole ∙ ap (λ t. t ++ after) s.whole ∙ append_assoc s.front s.back after;
-      fits = omega (arith, reads.fits, ap length s.whole, length-append s.front s.back);
-    })
+    let s = split_text lines more reads.text reads.is_text in (
+      s.back ++ after,
+      record {
+        text = s.front;
+        is_text = s.is_front;
+        whole = reads.whole ∙ ap (λ t. t ++ after) s.whole ∙ append_assoc s.front s.back after;
+        fits = omega (arith, reads.fits, ap length s.whole, length-append s.front s.back);
+      },
+    )
 
 -- two texts at the front of the same bytes, as their first lines and what stands behind them
 behind_first : (u v s t x y front back : List ℕ) → s ≡ u ++ front → t ≡ v ++ back → s ++ x ≡ t ++ y → u ++ (front ++ x) ≡ v ++ (back ++ y)

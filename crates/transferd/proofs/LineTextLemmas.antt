@@ -1,6 +1,6 @@
 -- What the text of a line tells, one equation for each line.
 use Rattle.gt_streams.specs.Reading.{HasNoNewline}
-use Rattle.std.proofs.Common.{List, [], ap, arith, codes, drop, length, refl, subst, sym, ◌++◌, ◌<◌, ◌∙◌, ◌∷◌, ◌≡◌, ◌≤◌, ℕ}
+use Rattle.std.proofs.Common.{List, [], ap, arith, codes, drop, length, refl, sym, ◌++◌, ◌∙◌, ◌∷◌, ◌≡◌, ◌≤◌, ℕ}
 use Rattle.std.proofs.Math.Seq.{drop-append_seam}
 use Rattle.transferd.specs.Script.{IsTextOf}
 use Rattle.transferd.specs.declared.line.Line.{Line}
