@@ -1,4 +1,4 @@
-use Rattle.gt_streams.proofs.Lines.{line_end_of-end, line_end_of-long, line_end_of-newline}
+use Rattle.gt_streams.proofs.ReadingLemmas.{line_end_of-end, line_end_of-long, line_end_of-newline}
 use Rattle.gt_streams.proofs.line.read_line.Goals as goal
 use Rattle.gt_streams.specs.Reading.{line_end_of}
 use Rattle.gt_streams.specs.declared.line.LineEnd.TheVariants.{EndOfInput}

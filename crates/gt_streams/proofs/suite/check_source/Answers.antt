@@ -1,4 +1,4 @@
-use Rattle.gt_streams.proofs.Pieces.{front_is}
+use Rattle.gt_streams.proofs.PieceLemmas.{front_is}
 use Rattle.gt_streams.proofs.suite.check_source.Goals as goal
 use Rattle.std.proofs.Common.{rules, sym, true, ◌++◌, ◌∙◌, ◌≡◌}
 use Rattle.std.proofs.lemmas.Slice.Eq.{bytes_eq-Decides}

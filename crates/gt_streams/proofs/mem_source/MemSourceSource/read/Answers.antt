@@ -1,4 +1,4 @@
-use Rattle.gt_streams.proofs.Pieces.{take-copied}
+use Rattle.gt_streams.proofs.PieceLemmas.{take-copied}
 use Rattle.gt_streams.proofs.mem_source.MemSourceSource.read.Goals as goal
 use Rattle.std.proofs.Common.{arith, drop, length, rules, subst, sym, take, ◌++◌, ◌+◌, ◌-◌, ◌∙◌, ◌≡◌, ◌≤◌}
 

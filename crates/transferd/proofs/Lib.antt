@@ -1,0 +1,6 @@
+pub mod LineTextLemmas
+pub mod FrontLemmas
+pub mod ReadingLemmas
+pub mod ExitLemmas
+pub mod RunLemmas
+pub mod EndingLemmas

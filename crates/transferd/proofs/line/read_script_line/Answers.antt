@@ -1,0 +1,57 @@
+use Rattle.std.proofs.Common.{[], append_assoc, arith, length, rules, subst, sym, ◌++◌, ◌+◌, ◌<◌, ◌∙◌, ◌∷◌, ◌≡◌}
+use Rattle.transferd.proofs.FrontLemmas.{late_command, other_command}
+use Rattle.transferd.proofs.line.read_script_line.Goals as goal
+use Rattle.transferd.specs.Script.{BeginsNoLine, IsTextOf, most_script_bytes}
+use Rattle.transferd.specs.declared.line.Line.{Line}
+
+pub returns-then-taken-gt-SCRIPT_LIMIT-clause-refused : goal.returns-then-taken-gt-SCRIPT_LIMIT-clause-refused
+returns-then-taken-gt-SCRIPT_LIMIT-clause-refused g c n is =
+    let command = c.read_line-end.new.into.items in
+    let after = g.S.Source.left c.read_line-end.new.source in
+    let before = c.args.taken.now in
+    let late : most_script_bytes < before + length command + 1 = omega arith in
+    let number : n ≡ c.args.number = search rules in (
+      number,
+      λ told.
+          let whole : g.S.Source.left c.args.script.now ≡ command ++ 10 ∷ after = search rules in
+          subst (BeginsNoLine before) (sym whole) (late_command before command after c.read_line-end.ensures.plain late),
+    )
+
+pub returns-then-taken-gt-SCRIPT_LIMIT-clause-stopped : goal.returns-then-taken-gt-SCRIPT_LIMIT-clause-stopped
+returns-then-taken-gt-SCRIPT_LIMIT-clause-stopped g c err told =
+    let command = c.read_line-end.new.into.items in
+    let after = g.S.Source.left c.read_line-end.new.source in
+    let before = c.args.taken.now in
+    let late : most_script_bytes < before + length command + 1 = omega arith in
+    let whole : g.S.Source.left c.args.script.now ≡ command ++ 10 ∷ after = search rules in
+    record {
+      gone = command ++ 10 ∷ [];
+      whole = whole ∙ sym (append_assoc command (10 ∷ []) after);
+      unfinished = late_command before command [] c.read_line-end.ensures.plain late;
+    }
+
+pub returns-clause-refused : goal.returns-clause-refused
+returns-clause-refused g c n is =
+    let command = c.read_line-end.new.into.items in
+    let after = g.S.Source.left c.read_line-end.new.source in
+    let before = c.args.taken.now in
+    let number : n ≡ c.args.number = search rules in (
+      number,
+      λ told.
+          let whole : g.S.Source.left c.args.script.now ≡ command ++ 10 ∷ after = search rules in
+          let none : (line : Line) → IsTextOf line (command ++ 10 ∷ []) → ⊥ = search rules in
+          subst (BeginsNoLine before) (sym whole) (other_command before command after c.read_line-end.ensures.plain none),
+    )
+
+pub returns-clause-stopped : goal.returns-clause-stopped
+returns-clause-stopped g c err told =
+    let command = c.read_line-end.new.into.items in
+    let after = g.S.Source.left c.read_line-end.new.source in
+    let before = c.args.taken.now in
+    let whole : g.S.Source.left c.args.script.now ≡ command ++ 10 ∷ after = search rules in
+    let none : (line : Line) → IsTextOf line (command ++ 10 ∷ []) → ⊥ = search rules in
+    record {
+      gone = command ++ 10 ∷ [];
+      whole = whole ∙ sym (append_assoc command (10 ∷ []) after);
+      unfinished = other_command before command [] c.read_line-end.ensures.plain none;
+    }

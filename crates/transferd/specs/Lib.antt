@@ -1,0 +1,9 @@
+pub mod Words
+pub mod World
+pub mod Script
+pub mod Run
+pub mod Output
+pub mod Endings
+pub mod Exits
+pub mod Progress
+pub mod MainTheorem

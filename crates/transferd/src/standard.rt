@@ -1,0 +1,80 @@
+// Standard input and output as a source and a sink. They tell nothing of their bytes.
+use gt_streams::{Failed, Sink, Source};
+use std::io::{ErrorKind, Read, Write};
+
+/// Standard input, with its count of faults.
+#[derive(Drop)]
+pub struct StandardInput<R: Drop> {
+    reader: R,
+    faults: u64,
+}
+
+impl<R: Read + Drop> StandardInput<R> {
+    pub fn new(reader: R) -> StandardInput<R> {
+        StandardInput { reader, faults: 0 }
+    }
+}
+
+impl<R: Read + Drop> Source for StandardInput<R> {
+    ghost faults_of = { λ s. s.faults };
+
+    fn faults(&self) -> u64 {
+        self.faults
+    }
+
+    fn read(&mut self, into: &mut [u8]) -> Result<usize, Failed> {
+        for _ in 0..u64::MAX {
+            match self.reader.read(into) {
+                Ok(n) => return Ok(n),
+                Err(error) => {
+                    if error.kind() != ErrorKind::Interrupted {
+                        break;
+                    }
+                }
+            }
+        }
+        self.faults = self.faults.saturating_add(1);
+        Err(Failed)
+    }
+}
+
+/// Standard output, with its count of faults.
+#[derive(Drop)]
+pub struct StandardOutput<W: Drop> {
+    writer: W,
+    faults: u64,
+}
+
+impl<W: Write + Drop> StandardOutput<W> {
+    pub fn new(writer: W) -> StandardOutput<W> {
+        StandardOutput { writer, faults: 0 }
+    }
+}
+
+impl<W: Write + Drop> Sink for StandardOutput<W> {
+    ghost faults_of = { λ s. s.faults };
+
+    fn faults(&self) -> u64 {
+        self.faults
+    }
+
+    fn write(&mut self, from: &[u8]) -> Result<usize, Failed> {
+        for _ in 0..u64::MAX {
+            match self.writer.write(from) {
+                Ok(n) => {
+                    if n > 0 || from.is_empty() {
+                        return Ok(n);
+                    }
+                    break;
+                }
+                Err(error) => {
+                    if error.kind() != ErrorKind::Interrupted {
+                        break;
+                    }
+                }
+            }
+        }
+        self.faults = self.faults.saturating_add(1);
+        Err(Failed)
+    }
+}
