@@ -5,7 +5,7 @@ use Rattle.gt_paths.specs.Name.{is_name}
 use Rattle.gt_paths.specs.Path.{PathValue, printed_len}
 use Rattle.std.specs.List.{slice_split}
 use Rattle.std.specs.Option.{option_map_or}
-use Rattle.std.specs.Prelude.{Bool, Err, List, None, Ok, Option, Result, Some, [], drop, false, if◌then◌else◌, length, min, nat_lt, option_map, ℕ, ◌++◌, ◌+◌, ◌-◌, ◌==◌, ◌^◌, ◌∷◌}
+use Rattle.std.specs.Prelude.{Bool, Err, List, None, Ok, Option, Result, Some, [], drop, false, if◌then◌else◌, length, min, nat_lt, option_map, ℕ, ◌++◌, ◌+◌, ◌-◌, ◌==◌, ◌^◌, ◌∷◌, ◌≡◌}
 use Rattle.std.specs.Str.{bytes_eq}
 
 -- the parts of a split text, but a last one that is empty
@@ -47,6 +47,10 @@ limited path =
 -- the fault of a piece that is no name: its place, of which 4 bytes can tell 2^32 - 1 at most
 abbrev pub bad_name : ℕ → PathFault
 bad_name at = BadName (min at (2 ^ 32 - 1))
+
+-- the fault tells the first bad piece
+abbrev pub IsBadPiece : List (List ℕ) → PathFault → Type 0
+IsBadPiece pieces fault = (at : ℕ) × (bad_place pieces ≡ Some at) × (fault ≡ bad_name at)
 
 -- the path of these pieces, or what is wrong with them
 unfoldable pub path_of_pieces : PathValue → List (List ℕ) → Result PathValue PathFault

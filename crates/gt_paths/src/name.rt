@@ -1,8 +1,9 @@
-ghost use Rattle.std.specs.Prelude.{◌≡◌, ◌↔◌, IfOk, IsErrOf, IsTrue, refl, OnOk, false, nat_eq};
+ghost use Rattle.std.specs.List.{list_any};
+ghost use Rattle.std.specs.Prelude.{◌≡◌, ◌↔◌, ◌&&◌, length, nat_le, IfOk, IsErrOf, IsTrue, refl, OnOk, false, nat_eq};
 ghost use Rattle.std.specs.Cmp.{partial_equiv_from_equiv};
 ghost use Rattle.std.specs.Cmp.Lexicographic.{nat_list_cmp_total, nat_list_eq_equiv, pointwise, slice_cmp, texts_po, texts_ties};
 ghost use Rattle.std.specs.Ordering.{as_partial_cmp, nat_cmp};
-ghost use Rattle.gt_paths.specs.Name.{IsName, is_name, is_reserved as is_reserved_name};
+ghost use Rattle.gt_paths.specs.Name.{IsName, is_name, is_separator, is_reserved as is_reserved_name};
 
 use crate::fault::NameFault;
 use std::alloc::{AllocError, Global};
@@ -73,16 +74,25 @@ impl Name {
 
 /// Whether the text is a name.
 pub(crate) fn is_name(text: &str) -> bool
-    ensures test { result ≡ is_name text.now }
-    ensures name { IsTrue result ↔ IsName text.now }
+    ensures { result ≡ is_name text.now }
 {
-    let is_sized = !text.is_empty() && text.len() <= 255;
-    is_sized
-        && !text
-            .as_bytes()
-            .iter()
-            .any(|byte| *byte == b'/' || *byte == 0)
-        && !is_reserved(text)
+    is_sized(text) && !has_separator(text) && !is_reserved(text)
+}
+
+/// Whether the text has 1 to 255 bytes.
+fn is_sized(text: &str) -> bool
+    ensures { result ≡ (nat_le 1 (length text.now) && nat_le (length text.now) 255) }
+{
+    !text.is_empty() && text.len() <= 255
+}
+
+/// Whether a byte of the text ends names.
+fn has_separator(text: &str) -> bool
+    ensures { result ≡ list_any is_separator text.now }
+{
+    text.as_bytes()
+        .iter()
+        .any(|byte| *byte == b'/' || *byte == 0)
 }
 
 /// Whether the text stands for another folder: this one, the one above, or the home folder.

@@ -1,4 +1,4 @@
-ghost use Rattle.std.specs.Prelude.{◌≡◌, ◌↔◌, ◌⊎◌, ◌++◌, [], length, refl, IfErr, IfOk, IsTrue, string_bytes};
+ghost use Rattle.std.specs.Prelude.{◌≡◌, ◌≤◌, ◌↔◌, ◌⊎◌, ◌++◌, [], length, refl, IfErr, IfOk, IsTrue, None, OnOk, string_bytes};
 ghost use Rattle.std.specs.Cmp.{partial_equiv_from_equiv, partial_order_from_agreeing_total};
 ghost use Rattle.std.specs.Cmp.Lexicographic.{lists_equiv, lists_ties, lists_total, nat_list_cmp_total, nat_list_eq_equiv, slice_cmp, texts_ties};
 ghost use Rattle.std.specs.Ordering.{as_partial_cmp, nat_cmp};
@@ -35,6 +35,7 @@ impl Model for Path {
 
 impl Path {
     ghost use Rattle.gt_paths.specs.Draft.{IsDraftOf};
+    ghost use Rattle.gt_paths.specs.PathText.{IsBadPiece, bad_place, names_of, pieces_of};
 
     /// The root of a collection.
     pub fn root(alloc: Global) -> Path
@@ -68,21 +69,31 @@ impl Path {
         let Some(rest) = text.strip_prefix('/') else {
             return Err(PathFault::NotAbsolute);
         };
+        Path::of(Path::draft_of(alloc, rest, home)?)
+    }
+
+    /// The names that the pieces of the text stand for.
+    fn draft_of(alloc: Global, text: &str, home: &Path) -> Result<Draft, PathFault>
+        ensures good { OnOk result (bad_place (pieces_of text.now) ≡ None) }
+        ensures draft { IfOk result (λ draft. IsDraftOf draft (names_of home.now (pieces_of text.now))) }
+        ensures fault { IfErr result (λ fault. (fault ≡ PathFault.OutOfMemory) ⊎ IsBadPiece (pieces_of text.now) fault) }
+    {
         let mut draft = Draft::new(alloc);
-        match behind_home(rest) {
-            Some(after) => {
+        match behind_home(text) {
+            Some(rest) => {
                 draft.extend(alloc, &home.names)?;
-                draft.read(alloc, after, 1)?;
+                draft.read(alloc, rest, 1)?;
             }
-            None => draft.read(alloc, rest, 0)?,
+            None => draft.read(alloc, text, 0)?,
         }
-        Path::of(draft)
+        Ok(draft)
     }
 
     /// The path that the draft is, or the limit that it passes.
     fn of(draft: Draft) -> Result<Path, PathFault>
+        requires { (names : PathValue) × IsDraftOf draft names }
         ensures path { IfOk result (λ path. IsTrue (is_path path)) }
-        ensures ok { IfOk result (λ path. (names : PathValue) → IsDraftOf draft names → limited names ≡ Ok path) }
+        ensures ok { IfOk result (λ path. (names : PathValue) → IsDraftOf draft names → path ≡ names) }
         ensures fault { IfErr result (λ fault. (names : PathValue) → IsDraftOf draft names → limited names ≡ Err fault) }
     {
         if draft.depth > MAX_NAMES {
@@ -104,7 +115,7 @@ impl Path {
         if self.names.is_empty() {
             return String::from_str(alloc, "/");
         }
-        let mut text = String::with_capacity(alloc, self.len())?;
+        let mut text = String::with_capacity(alloc, self.slashed_len())?;
         for name in &self.names {
             text.push('/')?;
             text.push_str(name.as_str())?;
@@ -113,10 +124,14 @@ impl Path {
     }
 
     /// The number of bytes that its names print, each with its slash.
-    fn len(&self) -> usize
+    fn slashed_len(&self) -> usize
         ensures { result ≡ length (slashed self.now) }
     {
-        self.names.iter().map(|name| name.as_str().len() + 1).sum()
+        let mut len = 0;
+        for name in &self.names {
+            len += name.as_str().len() + 1;
+        }
+        len
     }
 
     /// Whether the folder's names are the first names of this path.
@@ -138,7 +153,7 @@ impl Path {
     /// The path of the name in this folder.
     pub fn child(&self, alloc: Global, name: &Name) -> Result<Path, PathFault>
         ensures path { IfOk result (λ path. IsTrue (is_path path)) }
-        ensures ok { IfOk result (λ path. (path ≡ child_path self.now name.now) × (limited (child_path self.now name.now) ≡ Ok path)) }
+        ensures ok { IfOk result (λ path. path ≡ child_path self.now name.now) }
         ensures fault { IfErr result (λ fault. (fault ≡ PathFault.OutOfMemory) ⊎ (limited (child_path self.now name.now) ≡ Err fault)) }
     {
         let mut draft = Draft::new(alloc);
@@ -151,13 +166,25 @@ impl Path {
     pub fn rebase(&self, alloc: Global, from: &Path, to: &Path) -> Result<Path, PathFault>
         requires { IsTrue (is_under self.now from.now) }
         ensures path { IfOk result (λ path. IsTrue (is_path path)) }
-        ensures ok { IfOk result (λ path. (path ≡ to.now ++ below self.now from.now) × (limited (to.now ++ below self.now from.now) ≡ Ok path)) }
+        ensures ok { IfOk result (λ path. path ≡ to.now ++ below self.now from.now) }
         ensures fault { IfErr result (λ fault. (fault ≡ PathFault.OutOfMemory) ⊎ (limited (to.now ++ below self.now from.now) ≡ Err fault)) }
     {
         let mut draft = Draft::new(alloc);
         draft.extend(alloc, &to.names)?;
-        draft.extend(alloc, &self.names[from.names.len()..])?;
+        draft.extend(alloc, self.names_below(from))?;
         Path::of(draft)
+    }
+
+    /// The names of this path behind those of the folder.
+    fn names_below(&self, folder: &Path) -> &[Name]
+        requires { IsTrue (is_under self.now folder.now) }
+        ensures names { result.now ≡ below self.now folder.now }
+        ensures few { length result.now ≤ 64 }
+        ensures small { length (slashed result.now) ≤ 4096 }
+    {
+        let names = self.names.as_slice();
+        let above = folder.names.as_slice();
+        &names[above.len()..]
     }
 
     /// A copy of the path.

@@ -1,0 +1,4 @@
+pub mod DraftLemmas
+pub mod NameLemmas
+pub mod PathLemmas
+pub mod PieceLemmas
