@@ -1,0 +1,8 @@
+use Rattle.std.proofs.Common.{◌≡◌, ℕ, List, drop, take, IsTrue}
+use Rattle.gt_disk.specs.Images.{State, are_within, fresh, run, Step}
+use Rattle.gt_disk.specs.MemFile.{steps_of, IsKept}
+use Rattle.gt_disk.proofs.KeptLemmas.{Again}
+use Rattle.gt_disk.proofs.crash.kept_file.Given as goal
+
+abbrev pub invariant-loop-call : goal.invariant-loop-call
+invariant-loop-call l = Again l.keep (fresh l.start) (steps_of l.noted) l.call-index l.seen.items l.left.items
