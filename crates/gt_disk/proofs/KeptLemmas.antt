@@ -1,9 +1,9 @@
 -- What is kept of one step more, and that it is one of the images.
-use Rattle.std.proofs.Common.{◌≡◌, ◌⊎◌, inl, inr, ⊎_elim, ℕ, ◌+◌, ◌-◌, ◌<◌, ◌≤◌, max, Bool, true, false, ◌&&◌, List, [], ◌∷◌, ◌++◌, length, take, drop, get_or, refl, sym, ◌∙◌, ap, subst, arith, rules}
-use Rattle.std.proofs.lemmas.List.{length-map, get_or-map, get_or_past, drop_more, take_more, take_all}
+use Rattle.std.proofs.Common.{◌≡◌, ◌⊎◌, inl, inr, ⊎_elim, ℕ, ◌+◌, ◌-◌, ◌<◌, ◌≤◌, Bool, true, false, ◌&&◌, List, [], ◌∷◌, ◌++◌, length, take, drop, get_or, refl, sym, ◌∙◌, ap, subst, arith, rules}
+use Rattle.std.proofs.lemmas.List.{length-map, get_or-map, drop_more, take_more, take_all}
 use Rattle.std.proofs.lemmas.Bool.{cases_lt}
 use Rattle.gt_disk.specs.Disk.{Torn as IsTorn}
-use Rattle.gt_disk.specs.TornWrites.{Reaches, IsOutside, greatest, BeginWithin, MayBe}
+use Rattle.gt_disk.specs.TornWrites.{Reaches, greatest, BeginWithin}
 use Rattle.gt_disk.specs.Images.{State, Step, Look, Write, Sync, IsImage, overlaid, after, fresh, run, begins_within, are_within}
 use Rattle.gt_disk.specs.MemFile.{IsTornFrom, IsKept, step_of, steps_of}
 use Rattle.gt_disk.specs.declared.call.Call.{Call}
@@ -35,13 +35,13 @@ module _ (from : ℕ) (state : State) (c : List ℕ) (at : ℕ) (bytes torn : Li
     before = λ i low. elim (sides at (length bytes) i) [
       | inl out ↦ out_of_range i out (kept.before i low)
       | inr inside ↦
-        overlaid-inside c at torn within_c i inside.0 (omega (arith, inside.1, same)) ∙ front (i - at) (omega (arith, low, inside.0)) ∙ sym (overlaid-inside state.seen at bytes within i inside.0 inside.1)
+          overlaid-inside c at torn within_c i inside.0 (omega (arith, inside.1, same)) ∙ front (i - at) (omega (arith, low, inside.0)) ∙ sym (overlaid-inside state.seen at bytes within i inside.0 inside.1)
     ];
     outside = λ i out. out_of_range i out.0 (kept.outside i out.1);
     ones = λ i high low not. elim (sides at (length bytes) i) [
       | inl out ↦
-        overlaid-outside c at torn within_c i (subst (λ n. (i < at) ⊎ (at + n ≤ i)) (sym same) out)
-        ∙ kept.ones i high (⊎_elim (λ (below : i < at). omega (arith, below, within)) (λ (above : at + length bytes ≤ i). omega (arith, above, low, length-overlaid state.seen at bytes within)) out) (λ others. not (out, others))
+          overlaid-outside c at torn within_c i (subst (λ n. (i < at) ⊎ (at + n ≤ i)) (sym same) out)
+          ∙ kept.ones i high (⊎_elim (λ (below : i < at). omega (arith, below, within)) (λ (above : at + length bytes ≤ i). omega (arith, above, low, length-overlaid state.seen at bytes within)) out) (λ others. not (out, others))
       | inr inside ↦ overlaid-inside c at torn within_c i inside.0 (omega (arith, inside.1, same)) ∙ ones (i - at) (omega (arith, high, inside.0)) (omega (arith, inside.0, inside.1))
     ];
   }

@@ -1,7 +1,7 @@
 -- What a call of a file in memory makes of its images and its moments.
-use Rattle.std.proofs.Common.{◌≡◌, ◌⊎◌, inl, inr, ℕ, ◌+◌, ◌≤◌, List, [], ◌∷◌, ◌++◌, length, take, drop, Result, Ok, Err, IfOk, OnOk, IsTrue, true, refl, sym, ◌∙◌, ap, subst}
-use Rattle.gt_disk.specs.Disk.{Holds, Torn, Follows, NoMore, Only, Elapses}
-use Rattle.gt_disk.specs.Images.{State, Step, Look, Write, Sync, IsImage, overlaid, after, state_of, LeftSince}
+use Rattle.std.proofs.Common.{◌≡◌, ◌⊎◌, inl, inr, ℕ, ◌≤◌, List, [], ◌∷◌, ◌++◌, length, Result, Ok, Err, IfOk, OnOk, IsTrue, true, refl, sym, ◌∙◌, ap, subst}
+use Rattle.gt_disk.specs.Disk.{Torn, Follows, NoMore, Elapses}
+use Rattle.gt_disk.specs.Images.{State, Step, Look, Write, Sync, IsImage, after, state_of, LeftSince}
 use Rattle.gt_disk.specs.MemFile.{MemFile, IsCall, noted, refused, next}
 use Rattle.gt_disk.proofs.Replay.{state_more, elapses_more, elapses_not, write_follows, sync_leaves, torn_overlaid}
 use Rattle.gt_disk.proofs.KeptLemmas.{torn_not}
@@ -30,10 +30,10 @@ module _ {T E : Type 0} (old new : MemFile) (step : Step) (IsTooLong : Type 0) w
   pub time : (result : Result T E) → IsCall old new step IsTooLong result → Elapses (length old.steps) (length new.steps) (LeftSince old.start old.steps) (LeftSince new.start new.steps) (IsImage (state new))
   time result call = elim (outcome result call) [
     | inl is ↦
-      subst (λ (f : MemFile). Elapses (length old.steps) (length f.steps) (LeftSince old.start old.steps) (LeftSince f.start f.steps) (IsImage (state f))) (sym is)
-      (elapses_more old.start old.steps (old.steps ++ step ∷ []) step refl)
+        subst (λ (f : MemFile). Elapses (length old.steps) (length f.steps) (LeftSince old.start old.steps) (LeftSince f.start f.steps) (IsImage (state f))) (sym is)
+        (elapses_more old.start old.steps (old.steps ++ step ∷ []) step refl)
     | inr failed ↦
-      subst (λ (f : MemFile). Elapses (length old.steps) (length f.steps) (LeftSince old.start old.steps) (LeftSince f.start f.steps) (IsImage (state f))) (sym failed.1) (elapses_not old.start old.steps)
+        subst (λ (f : MemFile). Elapses (length old.steps) (length f.steps) (LeftSince old.start old.steps) (LeftSince f.start f.steps) (IsImage (state f))) (sym failed.1) (elapses_not old.start old.steps)
   ]
 
 module _ {T E : Type 0} (old new : MemFile) (IsTooLong : Type 0) (result : Result T E) where

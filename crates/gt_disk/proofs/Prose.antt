@@ -1,6 +1,6 @@
 -- Torn steps leave what the words say, and all of it.
-use Rattle.std.proofs.Common.{◌≡◌, ◌⊎◌, inl, inr, ℕ, ◌+◌, ◌-◌, ◌<◌, ◌≤◌, min, max, List, [], ◌∷◌, ◌++◌, length, get_or, take, drop, refl, sym, ◌∙◌, ap, subst, arith, length-append, length-take, length-drop, take-append-drop}
-use Rattle.std.proofs.lemmas.List.{get_or-take, get_or-drop, get_or_append_left, get_or-append_right, take-take, take_all, drop_all, drop-take, ext_get_or, places}
+use Rattle.std.proofs.Common.{◌≡◌, ◌⊎◌, inl, inr, ℕ, ◌+◌, ◌-◌, ◌<◌, ◌≤◌, min, max, List, [], ◌∷◌, ◌++◌, length, get_or, take, drop, refl, sym, ◌∙◌, ap, arith, length-append, length-take, length-drop}
+use Rattle.std.proofs.lemmas.List.{get_or-take, get_or-drop, get_or_append_left, get_or-append_right, ext_get_or}
 use Rattle.std.proofs.lemmas.Bool.{cases_lt}
 use Rattle.gt_disk.specs.Disk.{Torn}
 use Rattle.gt_disk.specs.TornWrites.{Reaches, IsOutside, greatest, BeginWithin, MayBe}
@@ -101,14 +101,14 @@ module _ (synced c : List ℕ) (at n longest : ℕ) (long : length synced ≤ le
     before = ext_get_or 0 (take at c) (take at earlier)
         (omega (arith, length-take at c, length-take at earlier, length-earlier, within))
         (λ i low.
-            let inside : i < length c = omega (arith, low, length-take at c) in
-            let front : i < at = omega (arith, low, length-take at c) in
-            get_or-take at c i 0 front ∙ sym (earlier-outside i (omega (arith, front, within)) inside (inl front)) ∙ sym (get_or-take at earlier i 0 front));
+        let inside : i < length c = omega (arith, low, length-take at c) in
+        let front : i < at = omega (arith, low, length-take at c) in
+        get_or-take at c i 0 front ∙ sym (earlier-outside i (omega (arith, front, within)) inside (inl front)) ∙ sym (get_or-take at earlier i 0 front));
     after = ext_get_or 0 (drop (at + n) c) (drop (at + n) earlier)
         (omega (arith, length-drop (at + n) c, length-drop (at + n) earlier, length-earlier, longer))
         (λ j low.
-            let inside : at + n + j < length c = omega (arith, low, length-drop (at + n) c) in
-            get_or-drop (at + n) c j 0 ∙ sym (earlier-outside (at + n + j) (omega (arith, inside, longer)) inside (inr (omega arith))) ∙ sym (get_or-drop (at + n) earlier j 0));
+        let inside : at + n + j < length c = omega (arith, low, length-drop (at + n) c) in
+        get_or-drop (at + n) c j 0 ∙ sym (earlier-outside (at + n + j) (omega (arith, inside, longer)) inside (inr (omega arith))) ∙ sym (get_or-drop (at + n) earlier j 0));
     no_shorter = omega (arith, length-earlier);
     no_longer = omega (arith, length-earlier, longer);
   }

@@ -1,10 +1,9 @@
 -- One step more of a file in memory, and what it makes of the images.
-use Rattle.std.proofs.Common.{◌≡◌, ◌⊎◌, inl, inr, ⊎_elim, ℕ, ◌+◌, ◌<◌, ◌≤◌, ◌^◌, Bool, true, false, ◌&&◌, IsTrue, List, [], ◌∷◌, ◌++◌, length, take, drop, refl, sym, ◌∙◌, ap, subst, arith, append_assoc, length-append, length-take, length-drop, rules}
+use Rattle.std.proofs.Common.{◌≡◌, inl, inr, ℕ, ◌+◌, ◌<◌, ◌≤◌, ◌^◌, Bool, true, false, ◌&&◌, List, [], ◌∷◌, ◌++◌, length, take, drop, refl, sym, ◌∙◌, ap, subst, arith, append_assoc, length-append, length-take, length-drop, rules}
 use Rattle.std.proofs.lemmas.List.{take_at, drop_at, take_all, take-append-le}
 use Rattle.std.proofs.lemmas.Bool.{cases_lt}
-use Rattle.gt_disk.specs.Disk.{Torn, Follows, NoMore, Only, Elapses}
-use Rattle.gt_disk.specs.TornWrites.{Reaches}
-use Rattle.gt_disk.specs.Images.{State, Step, Look, Write, Sync, IsImage, overlaid, after, fresh, run, state_of, begins_within, are_within, LeftSince}
+use Rattle.gt_disk.specs.Disk.{Torn, Follows, Only, Elapses}
+use Rattle.gt_disk.specs.Images.{State, Step, Write, Sync, IsImage, overlaid, after, fresh, run, state_of, begins_within, are_within, LeftSince}
 use Rattle.gt_disk.specs.MemFile.{IsReplayed}
 
 pub run-push : (state : State) (steps : List Step) (step : Step) → run state (steps ++ step ∷ []) ≡ after step (run state steps)

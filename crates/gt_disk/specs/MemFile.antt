@@ -1,6 +1,5 @@
 -- A file in memory as its callers see it, when its calls fail, and what a crash of it keeps.
-use Rattle.std.specs.Prelude.{◌≡◌, ◌⊎◌, ℕ, ◌+◌, ◌-◌, ◌^◌, ◌<◌, ◌≤◌, min, List, [], ◌∷◌, ◌++◌, length, map, Contains, IsTrue, Vec, Result, OnOk, IsErr, slice_index}
-use Rattle.std.specs.declared.alloc.Global.{Global}
+use Rattle.std.specs.Prelude.{◌≡◌, ◌⊎◌, ℕ, ◌+◌, ◌-◌, ◌^◌, ◌<◌, ◌≤◌, min, List, [], ◌∷◌, ◌++◌, length, map, Contains, IsTrue, Result, OnOk, IsErr, slice_index}
 use Rattle.gt_disk.specs.TornWrites.{IsOutside}
 use Rattle.gt_disk.specs.Images.{State, Step, Look, Write, Sync, fresh, are_within, state_of}
 use Rattle.gt_disk.specs.declared.call.Call.{Call}

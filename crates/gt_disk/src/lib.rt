@@ -11,12 +11,12 @@ mod keep;
 mod laws;
 mod lent;
 mod mem;
+mod noting;
 mod overlay;
 mod suite;
 mod suite_fault;
 #[cfg(test)]
 mod tests;
-mod noting;
 
 pub use disk::{Disk, Failed};
 pub use keep::Keep;

@@ -88,6 +88,12 @@ pub fn disk_suite<D: Disk>(alloc: Global, disk: &mut D) -> Result<(), SuiteFault
     write_and_find(alloc, disk, &mut expected, 0, b"the first bytes")?;
     let end = expected.len();
     write_and_find(alloc, disk, &mut expected, end, b"more at the end")?;
-    write_and_find(alloc, disk, &mut expected, end, b"the same, and over the end")?;
+    write_and_find(
+        alloc,
+        disk,
+        &mut expected,
+        end,
+        b"the same, and over the end",
+    )?;
     write_and_find(alloc, disk, &mut expected, 4, b"F")
 }

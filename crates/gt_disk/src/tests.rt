@@ -40,9 +40,18 @@ fn each_kind_of_crash_keeps_its_bytes(rt: HostRuntime) -> Result<(), Fail> {
     let alloc = rt.alloc();
     assert_eq!(rt; left(alloc, Keep::Synced)?.as_slice(), b"abc".as_slice());
     assert_eq!(rt; left(alloc, Keep::Written)?.as_slice(), b"abXYZ".as_slice());
-    assert_eq!(rt; left(alloc, Keep::Torn { at: 0 })?.as_slice(), b"ab\x01\x01\x01".as_slice());
-    assert_eq!(rt; left(alloc, Keep::Torn { at: 3 })?.as_slice(), b"abX\x01\x01".as_slice());
-    assert_eq!(rt; left(alloc, Keep::Torn { at: 9 })?.as_slice(), b"abXYZ".as_slice());
+    assert_eq!(rt;
+        left(alloc, Keep::Torn { at: 0 })?.as_slice(),
+        b"ab\x01\x01\x01".as_slice()
+    );
+    assert_eq!(rt;
+        left(alloc, Keep::Torn { at: 3 })?.as_slice(),
+        b"abX\x01\x01".as_slice()
+    );
+    assert_eq!(rt;
+        left(alloc, Keep::Torn { at: 9 })?.as_slice(),
+        b"abXYZ".as_slice()
+    );
     Ok(())
 }
 
@@ -120,6 +129,12 @@ impl Disk for Short {
 
 #[test]
 fn suite_refuses_a_disk_that_drops_the_last_byte(rt: HostRuntime) {
-    let mut disk = Short { length: 0, faults: 0 };
-    assert_eq!(rt; disk_suite(rt.alloc(), &mut disk), Err(SuiteFault::WrongLength));
+    let mut disk = Short {
+        length: 0,
+        faults: 0,
+    };
+    assert_eq!(rt;
+        disk_suite(rt.alloc(), &mut disk),
+        Err(SuiteFault::WrongLength)
+    );
 }

@@ -1,6 +1,5 @@
-use Rattle.std.proofs.Common.{◌≡◌, ℕ, List, drop, take, IsTrue}
-use Rattle.gt_disk.specs.Images.{State, are_within, fresh, run, Step}
-use Rattle.gt_disk.specs.MemFile.{steps_of, IsKept}
+use Rattle.gt_disk.specs.Images.{fresh}
+use Rattle.gt_disk.specs.MemFile.{steps_of}
 use Rattle.gt_disk.proofs.KeptLemmas.{Again}
 use Rattle.gt_disk.proofs.crash.kept_file.Given as goal
 

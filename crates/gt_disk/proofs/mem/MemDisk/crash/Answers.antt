@@ -1,4 +1,4 @@
-use Rattle.std.proofs.Common.{◌≡◌, List, ℕ, sym, ◌∙◌, ap, subst, rules}
+use Rattle.std.proofs.Common.{sym, subst, rules}
 use Rattle.gt_disk.specs.Images.{IsImage, state_of, fresh}
 use Rattle.gt_disk.specs.MemFile.{MemFile, IsKept, steps_of}
 use Rattle.gt_disk.proofs.KeptLemmas.{kept_image, tidy_run, tidy_fresh}

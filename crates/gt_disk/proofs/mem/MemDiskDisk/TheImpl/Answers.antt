@@ -1,7 +1,6 @@
-use Rattle.std.proofs.Common.{◌≡◌, ◌≤◌, ◌+◌, ◌^◌, ℕ, List, length, take, drop, IsTrue, true, OnOk, ap, sym, subst, refl}
+use Rattle.std.proofs.Common.{◌≡◌, ◌≤◌, ◌+◌, ◌^◌, ℕ, length, take, drop, IsTrue, true, ap, subst, refl}
 use Rattle.gt_disk.specs.Disk.{Holds, Only}
-use Rattle.gt_disk.specs.Images.{State, Look, Sync, Write, IsImage, after, state_of}
-use Rattle.gt_disk.specs.MemFile.{MemFile}
+use Rattle.gt_disk.specs.Images.{State, Look, Sync, Write, IsImage, state_of}
 use Rattle.gt_disk.proofs.Replay.{sync_leaves}
 use Rattle.gt_disk.proofs.MemCalls.{looked, looked-crash, synced-crash, wrote-others, wrote-crash, time, on_ok, told_if, told_on}
 use Rattle.gt_disk.proofs.mem.MemDiskDisk.TheImpl.Goals as goal

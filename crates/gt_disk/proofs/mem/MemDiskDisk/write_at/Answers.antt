@@ -1,5 +1,5 @@
-use Rattle.std.proofs.Common.{◌≡◌, ℕ, ◌+◌, ◌≤◌, ◌<◌, List, length, true, refl, sym, ◌∙◌, ap, subst, arith}
-use Rattle.gt_disk.specs.Images.{Write, State, overlaid, state_of}
+use Rattle.std.proofs.Common.{◌≡◌, ℕ, ◌≤◌, List, length, sym, ◌∙◌, ap, subst, arith}
+use Rattle.gt_disk.specs.Images.{Write, overlaid, state_of}
 use Rattle.gt_disk.specs.MemFile.{steps_of}
 use Rattle.gt_disk.proofs.Replay.{replayed_more, torn_overlaid, begins_true}
 use Rattle.gt_disk.proofs.mem.MemDiskDisk.write_at.Goals as goal
@@ -17,5 +17,5 @@ invariant_of-self-in-Ok c =
     let torn = torn_overlaid seen c.args.at from within in
     let now = put ∙ ap (λ (l : List ℕ). overlaid l c.args.at from) is in
     replayed_more m.start.items steps (steps_of c.note_write.new.noted.items) (Write c.args.at from) c.in-Ok.ensures.ok m.bytes.items c.note_write.new.file.items c.self.invariant
-        (begins_true (state_of m.start.items steps) c.args.at from within) now
-        (omega (arith, ap length now, torn.no_longer, ap length is, c.self.invariant.small))
+    (begins_true (state_of m.start.items steps) c.args.at from within) now
+    (omega (arith, ap length now, torn.no_longer, ap length is, c.self.invariant.small))
