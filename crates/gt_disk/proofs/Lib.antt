@@ -1,0 +1,6 @@
+pub mod Moments
+mod Overlaid
+mod Replay
+mod Prose
+mod KeptLemmas
+mod MemCalls
