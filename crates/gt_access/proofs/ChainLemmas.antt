@@ -29,7 +29,7 @@ pub get_or-zeros : (xs : List ℕ) → list_all (λ x. nat_eq x 0) xs ≡ true �
 get_or-zeros [] h i = refl
 get_or-zeros (zero ∷ xs) h zero = refl
 get_or-zeros (zero ∷ xs) h (suc i) = get_or-zeros xs h i
-get_or-zeros (suc x ∷ xs) h i = let differs : false ≡ true = h in cc
+get_or-zeros (suc x ∷ xs) h i = grind (arith, h)
 
 -- no key at any place
 pub IsChained-none : (keys earlier latest : List ℕ) → keys ≡ [] → earlier ≡ [] → ((i : ℕ) → i < 64 → get_or latest i 0 ≡ 0)

@@ -24,7 +24,7 @@ EndsBeforeNext (row ∷ rows) =
 
 -- rules are numbered from 1, `newest` has the place of the last row of each number, and the rows before it have ended
 pub record IsNumbered (rows : List AccessRow) (newest : List ℕ) : Type 0 where
-  pub from_one : All (λ row. 1 ≤ row.number) rows
+  pub from_one : All (λ number. 1 ≤ number) (numbers_of rows)
   pub greatest : greatest_number rows ≡ length newest
   pub places : (n : ℕ) → n < length newest → last_of (n + 1) (numbers_of rows) ≡ slice_index newest n + 1
   pub ended : EndsBeforeNext rows

@@ -1,6 +1,7 @@
 ghost use Rattle.std.specs.List.{list_any};
-ghost use Rattle.std.specs.Prelude.{◌≡◌, ◌<◌, filter, length, option_and_then, slice_get};
-ghost use Rattle.gt_access.specs.Indexed.{IsNumbered, chains_of};
+ghost use Rattle.std.specs.Prelude.{◌≡◌, ◌<◌, ◌≤◌, ◌+◌, IfSome, IsSome, filter, length, option_and_then, slice_get};
+ghost use Rattle.gt_access.specs.Chain.{last_of};
+ghost use Rattle.gt_access.specs.Indexed.{IsNumbered, chains_of, numbers_of};
 ghost use Rattle.gt_access.specs.Right.{applies as row_applies, deepest, greatest_right};
 ghost use Rattle.gt_access.specs.Rule as rule;
 
@@ -57,7 +58,8 @@ pub(crate) fn has_same(
 /// The place of the live row with this number.
 pub(crate) fn live_place(rows: &[AccessRow], newest: &[usize], number: u64) -> Option<usize>
     requires { IsNumbered rows.now newest.now }
-    ensures { option_and_then (λ place. slice_get rows.now place) result ≡ rule.live_access number rows.now }
+    ensures within { IfSome result (λ place. place < length rows.now) }
+    ensures row { option_and_then (λ place. slice_get rows.now place) result ≡ rule.live_access number rows.now }
 {
     if number == 0 || number > newest.len() as u64 {
         return None;
@@ -68,6 +70,18 @@ pub(crate) fn live_place(rows: &[AccessRow], newest: &[usize], number: u64) -> O
     } else {
         None
     }
+}
+
+/// The place of the live row with this number, where there is one.
+pub(crate) fn live_at(rows: &[AccessRow], newest: &[usize], number: u64) -> usize
+    requires index { IsNumbered rows.now newest.now }
+    requires live { IsSome (rule.live_access number rows.now) }
+    ensures within { result < length rows.now }
+    ensures row { slice_get rows.now result ≡ rule.live_access number rows.now }
+    ensures last { last_of number (numbers_of rows.now) ≡ result + 1 }
+    ensures number { (1 ≤ number) × (number ≤ length newest.now) }
+{
+    newest[number as usize - 1]
 }
 
 // Whether the row is live and is for this collection, principal and path.

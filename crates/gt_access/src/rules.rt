@@ -1,11 +1,11 @@
 ghost use Rattle.std.specs.List.{list_any};
 ghost use Rattle.std.specs.Option.{option_copied};
-ghost use Rattle.std.specs.Prelude.{◌≡◌, ◌≤◌, ◌<◌, ◌+◌, [], IfSome, IsSome, OnOk};
+ghost use Rattle.std.specs.Prelude.{◌≡◌, ◌≤◌, ◌<◌, ◌+◌, ◌++◌, ◌∷◌, [], IfSome, IsSome, OnOk};
 ghost use Rattle.gt_access.specs.Right.{right_of};
-ghost use Rattle.gt_access.specs.Rule.{added_access, ended_access, is_same_rule, live_access, next_rule, replaced_access};
+ghost use Rattle.gt_access.specs.Rule.{added_access, ended_access, greatest_number, is_same_rule, live_access, next_rule, replaced_access};
 
 use crate::chains::Chains;
-use crate::look_up::{has_same, live_place, right_on};
+use crate::look_up::{has_same, live_at, live_place, right_on};
 use crate::row::{AccessRow, Right};
 use gt_paths::Path;
 use gt_types::{AccessSpec, Who};
@@ -96,14 +96,12 @@ impl Rules {
         requires live { IsSome (live_access number self.old.rows) }
         requires room { 0 < self.old.spare }
         ensures rows { IfSome (live_access number self.old.rows) (λ row. self.new.rows ≡ replaced_access at next row self.old.rows) }
-        ensures spare { self.new.spare + 1 ≡ self.old.spare }
+        ensures spare { self.old.spare ≤ self.new.spare + 1 }
     {
-        let place = self.newest.as_slice()[number as usize - 1];
+        let place = live_at(&self.rows, self.newest.as_slice(), number);
         let collection = self.rows[place].collection;
-        self.rows[place].ended = Some(at);
-        let _ = self.newest.replace(number as usize - 1, self.rows.len());
-        self.chains.add((collection % 64) as u8);
-        self.rows.push_reserved(AccessRow {
+        self.end(number, at);
+        self.add_again(AccessRow {
             number,
             collection,
             spec: next,
@@ -112,13 +110,27 @@ impl Rules {
         });
     }
 
+    // Adds a row of a rule that has rows, none of which is live.
+    fn add_again(&mut self, row: AccessRow)
+        requires ended { live_access row.number self.old.rows ≡ None }
+        requires from_one { 1 ≤ row.number }
+        requires given { row.number ≤ greatest_number self.old.rows }
+        requires room { 0 < self.old.spare }
+        ensures rows { self.new.rows ≡ self.old.rows ++ row ∷ [] }
+        ensures spare { self.old.spare ≤ self.new.spare + 1 }
+    {
+        let _ = self.newest.replace(row.number as usize - 1, self.rows.len());
+        self.chains.add((row.collection % 64) as u8);
+        self.rows.push_reserved(row);
+    }
+
     /// Ends the live row of the rule at the event `at`.
     pub fn end(&mut self, number: u64, at: u64)
         requires { IsSome (live_access number self.old.rows) }
         ensures rows { self.new.rows ≡ ended_access at number self.old.rows }
         ensures spare { self.new.spare ≡ self.old.spare }
     {
-        let place = self.newest.as_slice()[number as usize - 1];
+        let place = live_at(&self.rows, self.newest.as_slice(), number);
         self.rows[place].ended = Some(at);
     }
 
