@@ -1,9 +1,8 @@
-ghost use Rattle.std.specs.Prelude.{◌≡◌, ◌≤◌, ◌↔◌, ◌⊎◌, ◌++◌, [], length, refl, IfErr, IfOk, IsTrue, None, OnOk, string_bytes};
-ghost use Rattle.std.specs.Cmp.{partial_equiv_from_equiv, partial_order_from_agreeing_total};
-ghost use Rattle.std.specs.Cmp.Lexicographic.{lists_equiv, lists_ties, lists_total, nat_list_cmp_total, nat_list_eq_equiv, slice_cmp, texts_ties};
-ghost use Rattle.std.specs.Ordering.{as_partial_cmp, nat_cmp};
-ghost use Rattle.gt_paths.specs.Path.{PathValue, IsUnder, below, child_path, is_path, is_under, overlaps, path_cmp, printed_path, same_path, slashed};
+ghost use Rattle.std.specs.Prelude.{◌≡◌, ◌≤◌, ◌↔◌, ◌⊎◌, ◌++◌, [], length, IfErr, IfOk, IsTrue, None, OnOk, string_bytes};
+ghost use Rattle.gt_paths.specs.Path.{PathValue, IsUnder, below, child_path, is_path, is_under, overlaps, printed_path, slashed};
 ghost use Rattle.gt_paths.specs.PathText.{limited, read_path};
+
+mod order;
 
 use crate::draft::{Draft, MAX_BYTES, MAX_NAMES};
 use crate::fault::PathFault;
@@ -11,7 +10,6 @@ use crate::name::Name;
 use crate::pieces::behind_home;
 use gt_values::Exact;
 use std::alloc::{AllocError, Global};
-use std::cmp::Ordering;
 use std::marker::Model;
 
 /// A path from the root of a collection: at most 64 names, which print in at most 4,096 bytes.
@@ -206,44 +204,6 @@ impl Clone for Path {
         Ok(Path {
             names: self.names.clone()?,
         })
-    }
-}
-
-impl PartialEq for Path {
-    ghost eq = { same_path };
-
-    ghost laws = { partial_equiv_from_equiv (lists_equiv nat_list_eq_equiv) };
-
-    fn eq(&self, other: &Path) -> bool {
-        self.names == other.names
-    }
-}
-
-impl Eq for Path {
-    ghost laws = { lists_equiv nat_list_eq_equiv };
-}
-
-impl PartialOrd for Path {
-    ghost partial_cmp = { as_partial_cmp path_cmp };
-
-    ghost laws = { partial_order_from_agreeing_total path_cmp (lists_total nat_list_cmp_total) (λ _ _. refl) (lists_ties (slice_cmp nat_cmp) texts_ties) };
-
-    fn partial_cmp(&self, other: &Path) -> Option<Ordering> {
-        Some(self.cmp(other))
-    }
-}
-
-impl Ord for Path {
-    ghost cmp = { path_cmp };
-
-    ghost total = { lists_total nat_list_cmp_total };
-
-    ghost matches_partial_cmp = { λ _ _. refl };
-
-    ghost matches_eq = { lists_ties (slice_cmp nat_cmp) texts_ties };
-
-    fn cmp(&self, other: &Path) -> Ordering {
-        self.names.cmp(&other.names)
     }
 }
 
