@@ -12,6 +12,8 @@ use gt_values::Exact;
 use std::alloc::{AllocError, Global};
 use std::marker::Model;
 
+mod parts;
+
 /// A path from the root of a collection: at most 64 names, which print in at most 4,096 bytes.
 ///
 /// The root has no name. Paths are compared name by name, and names by their bytes.
