@@ -88,18 +88,20 @@ best_of-right (row ∷ rows) =
     let own = permission-bounds row.spec.write in
     let others = rank-le (greatest_right (deepest rows)) in
     elim (cases_order (length row.spec.path) (longest rows)) [
-      inl same ↦
-        step row rows (longest rows) (row ∷ deepest rows) (longest-cons row rows ∙ omega arith)
-        (of_length-same (longest rows) row rows same) (best_of-right rows) (omega (arith, rank-cons row (deepest rows)))
-    | inr differ ↦
-        elim differ [
-          inl shorter ↦
-            step row rows (longest rows) (deepest rows) (longest-cons row rows ∙ omega arith)
-            (of_length-other (longest rows) row rows (λ e. omega arith)) (best_of-right rows) (omega arith)
-        | inr longer ↦
-            step row rows (length row.spec.path) (row ∷ []) (longest-cons row rows ∙ omega arith)
-            (of_length-same (length row.spec.path) row rows refl ∙ ap (λ xs. row ∷ xs) (of_length-above (length row.spec.path) rows longer))
-            (best_of-right rows) (omega (arith, rank-cons row [])) ] ]
+      | inl same ↦
+          step row rows (longest rows) (row ∷ deepest rows) (longest-cons row rows ∙ omega arith)
+          (of_length-same (longest rows) row rows same) (best_of-right rows) (omega (arith, rank-cons row (deepest rows)))
+      | inr differ ↦
+          elim differ [
+            | inl shorter ↦
+                step row rows (longest rows) (deepest rows) (longest-cons row rows ∙ omega arith)
+                (of_length-other (longest rows) row rows (λ e. omega arith)) (best_of-right rows) (omega arith)
+            | inr longer ↦
+                step row rows (length row.spec.path) (row ∷ []) (longest-cons row rows ∙ omega arith)
+                (of_length-same (length row.spec.path) row rows refl ∙ ap (λ xs. row ∷ xs) (of_length-above (length row.spec.path) rows longer))
+                (best_of-right rows) (omega (arith, rank-cons row []))
+          ]
+    ]
 
 pub right_from_score : (best : Best) (rows : List AccessRow) → score best ≡ best_of rows → best.right ≡ greatest_right (deepest rows)
 right_from_score best rows e =

@@ -47,10 +47,11 @@ heads_push : (keys latest : List ℕ) (key : ℕ) → length latest ≡ 64 → k
     → (k : ℕ) → k < 64 → get_or (set latest key (length keys + 1)) k 0 ≡ last_of k (keys ++ key ∷ [])
 heads_push keys latest key size below old k h =
     elim (cases_eq k key) [
-      inl same ↦
-        rw (same, get_or-set_same latest key (length keys + 1) 0 (omega arith), last_of_same key keys) refl
-    | inr other ↦
-        rw (get_or-set_other latest key k (length keys + 1) 0 other, last_of_other k keys key (λ e. other (sym e))) (old k h) ]
+      | inl same ↦
+          rw (same, get_or-set_same latest key (length keys + 1) 0 (omega arith), last_of_same key keys) refl
+      | inr other ↦
+          rw (get_or-set_other latest key k (length keys + 1) 0 other, last_of_other k keys key (λ e. other (sym e))) (old k h)
+    ]
 
 -- what stands before a place stays, and the new place has what stood last
 links_push : (keys earlier : List ℕ) (key before : ℕ) → length earlier ≡ length keys → before ≡ last_of key keys
@@ -59,12 +60,16 @@ links_push : (keys earlier : List ℕ) (key before : ℕ) → length earlier ≡
     → get_or (earlier ++ before ∷ []) p 0 ≡ last_of (get_or (keys ++ key ∷ []) p 0) (take p (keys ++ key ∷ []))
 links_push keys earlier key before size is old p h =
     elim (cases_lt p (length keys)) [
-      inl within ↦
-        rw (get_or_append_left earlier (before ∷ []) 0 p (omega arith), get_or_append_left keys (key ∷ []) 0 p within,
-            take-append-le p keys (key ∷ []) (omega arith)) (old p within)
-    | inr beyond ↦
-        let last : length keys ≡ p = omega (arith, length_push keys key) in
-        rw (get_or_push earlier before 0 p (omega arith), get_or_push keys key 0 p last, take_at keys (key ∷ []) p last) is ]
+      | inl within ↦
+          rw (
+            get_or_append_left earlier (before ∷ []) 0 p (omega arith),
+            get_or_append_left keys (key ∷ []) 0 p within,
+            take-append-le p keys (key ∷ []) (omega arith),
+          ) (old p within)
+      | inr beyond ↦
+          let last : length keys ≡ p = omega (arith, length_push keys key) in
+          rw (get_or_push earlier before 0 p (omega arith), get_or_push keys key 0 p last, take_at keys (key ∷ []) p last) is
+    ]
 
 -- a key more, which is the last of its kind
 pub IsChained-push : (keys earlier latest : List ℕ) (key : ℕ) → length latest ≡ 64 → key < 64 → IsChained keys earlier latest

@@ -88,9 +88,10 @@ other_number row x rows none live e =
 
 pub ends_push : (row : AccessRow) (rows : List AccessRow) → EndsBeforeNext rows → live_access row.number rows ≡ None → EndsBeforeNext (rows ++ row ∷ [])
 ends_push row [] ends none = ((λ live. refl), tt)
-ends_push row (x ∷ rows) ends none =
-    (λ live. rw (map_push (λ r. r.number) rows row, last_of_other x.number (numbers_of rows) row.number (other_number row x rows none live)) (ends.0 live),
-     ends_push row rows ends.1 (grind arith))
+ends_push row (x ∷ rows) ends none = (
+  λ live. rw (map_push (λ r. r.number) rows row, last_of_other x.number (numbers_of rows) row.number (other_number row x rows none live)) (ends.0 live),
+  ends_push row rows ends.1 (grind arith),
+)
 
 -- no row has a number above the greatest
 fold_max-le : (a : ℕ) (xs : List ℕ) → a ≤ fold max a xs
@@ -124,14 +125,16 @@ pub live_number : (number : ℕ) (rows : List AccessRow) (newest : List ℕ) →
     → (1 ≤ number) × (number ≤ length newest)
 live_number number rows newest is live =
     elim (cases_lt (length newest) number) [
-      inl above ↦ let none = live_access-above number rows newest is above in absurd (let false_live : is_some (live_access number rows) ≡ false = rw none refl in cc)
-    | inr within ↦
-        elim (cases_lt 0 number) [
-          inl some ↦ (some, within)
-        | inr below ↦
-            let e : number ≡ 0 = omega arith in
-            let none : live_access number rows ≡ None = rw e (live_access-zero rows newest is) in
-            absurd (let false_live : is_some (live_access number rows) ≡ false = rw none refl in cc) ] ]
+      | inl above ↦ let none = live_access-above number rows newest is above in absurd (let false_live : is_some (live_access number rows) ≡ false = rw none refl in cc)
+      | inr within ↦
+          elim (cases_lt 0 number) [
+            | inl some ↦ (some, within)
+            | inr below ↦
+                let e : number ≡ 0 = omega arith in
+                let none : live_access number rows ≡ None = rw e (live_access-zero rows newest is) in
+                absurd (let false_live : is_some (live_access number rows) ≡ false = rw none refl in cc)
+          ]
+    ]
 
 -- where the last row of a number stands
 pub last_place : (number : ℕ) (rows : List AccessRow) (newest : List ℕ) → IsNumbered rows newest → 1 ≤ number → number ≤ length newest
@@ -190,13 +193,14 @@ IsNumbered-add row rows newest is new =
       from_one = from_one_push row rows is.from_one (omega arith);
       greatest = greatest-push row rows ∙ omega (arith, is.greatest, length_push newest (length rows));
       places = λ n h.
-        elim (cases_lt n (length newest)) [
-          inl old ↦
-            rw (last_of_before (n + 1) row rows (λ e. omega arith), get_or_append_left newest (length rows ∷ []) 0 n old) (is.places n old)
-        | inr last ↦
-            let at : length newest ≡ n = omega (arith, length_push newest (length rows)) in
-            let own : n + 1 ≡ row.number = omega arith in
-            rw (own, get_or_push newest (length rows) 0 n at) (last_of_pushed row rows) ];
+          elim (cases_lt n (length newest)) [
+            | inl old ↦
+                rw (last_of_before (n + 1) row rows (λ e. omega arith), get_or_append_left newest (length rows ∷ []) 0 n old) (is.places n old)
+            | inr last ↦
+                let at : length newest ≡ n = omega (arith, length_push newest (length rows)) in
+                let own : n + 1 ≡ row.number = omega arith in
+                rw (own, get_or_push newest (length rows) 0 n at) (last_of_pushed row rows)
+          ];
       ended = ends_push row rows is.ended (live_access-above row.number rows newest is (omega arith));
     }
 
@@ -208,14 +212,15 @@ IsNumbered-again row rows newest is none some within =
       from_one = from_one_push row rows is.from_one some;
       greatest = greatest-push row rows ∙ omega (arith, is.greatest, length-set newest (row.number - 1) (length rows));
       places = λ n h.
-        let inside : n < length newest = omega (arith, length-set newest (row.number - 1) (length rows)) in
-        elim (cases_eq n (row.number - 1)) [
-          inl same ↦
-            let own : n + 1 ≡ row.number = omega arith in
-            rw (own, same, get_or-set_same newest (row.number - 1) (length rows) 0 (omega arith)) (last_of_pushed row rows)
-        | inr other ↦
-            rw (last_of_before (n + 1) row rows (λ e. other (omega arith)), get_or-set_other newest (row.number - 1) n (length rows) 0 other)
-            (is.places n inside) ];
+          let inside : n < length newest = omega (arith, length-set newest (row.number - 1) (length rows)) in
+          elim (cases_eq n (row.number - 1)) [
+            | inl same ↦
+                let own : n + 1 ≡ row.number = omega arith in
+                rw (own, same, get_or-set_same newest (row.number - 1) (length rows) 0 (omega arith)) (last_of_pushed row rows)
+            | inr other ↦
+                rw (last_of_before (n + 1) row rows (λ e. other (omega arith)), get_or-set_other newest (row.number - 1) n (length rows) 0 other)
+                (is.places n inside)
+          ];
       ended = ends_push row rows is.ended none;
     }
 

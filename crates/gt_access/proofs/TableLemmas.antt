@@ -69,5 +69,5 @@ replaced_is k number spec rows ended after row live ended_are after_are =
     let own : number ≡ row.number = sym (live_access-number number rows row live) in
     rw live
     (after_are
-     ∙ ap (λ xs. xs ++ access_row number k row.collection spec ∷ []) ended_are
-     ∙ ap (λ n. ended_access k n rows ++ access_row n k row.collection spec ∷ []) own)
+    ∙ ap (λ xs. xs ++ access_row number k row.collection spec ∷ []) ended_are
+    ∙ ap (λ n. ended_access k n rows ++ access_row n k row.collection spec ∷ []) own)

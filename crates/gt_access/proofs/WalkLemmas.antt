@@ -22,12 +22,14 @@ front : {A B : Type 0} (F : List A → B) (g : A → B → B) (step : (x : A) (x
     → F (take (cond (nat_eq r 0) (cond (nat_eq (key x) k) 1 0) (r + 1)) (x ∷ xs)) ≡ F (x ∷ xs)
 front F g step key k skip x xs r rest =
     elim (cases_eq r 0) [
-      inl none ↦
-        let nothing : F [] ≡ F xs = rw none at rest in
-        elim (cases_eq (key x) k) [
-          inl same ↦ rw (eq-eqb r 0 none, eq-eqb (key x) k same) (step x [] ∙ ap (g x) nothing ∙ sym (step x xs))
-        | inr other ↦ rw (eq-eqb r 0 none, ne_eqb (key x) k other) (nothing ∙ sym (skip x (F xs) other) ∙ sym (step x xs)) ]
-    | inr some ↦ rw (ne_eqb r 0 some, add-one) (step x (take r xs) ∙ ap (g x) rest ∙ sym (step x xs)) ]
+      | inl none ↦
+          let nothing : F [] ≡ F xs = rw none at rest in
+          elim (cases_eq (key x) k) [
+            | inl same ↦ rw (eq-eqb r 0 none, eq-eqb (key x) k same) (step x [] ∙ ap (g x) nothing ∙ sym (step x xs))
+            | inr other ↦ rw (eq-eqb r 0 none, ne_eqb (key x) k other) (nothing ∙ sym (skip x (F xs) other) ∙ sym (step x xs))
+          ]
+      | inr some ↦ rw (ne_eqb r 0 some, add-one) (step x (take r xs) ∙ ap (g x) rest ∙ sym (step x xs))
+    ]
 
 -- no row behind the last of the key decides
 last_of_decides : {A B : Type 0} (F : List A → B) (g : A → B → B) (step : (x : A) (xs : List A) → F (x ∷ xs) ≡ g x (F xs)) (key : A → ℕ) (k : ℕ)
@@ -65,7 +67,7 @@ filter_walked p key k of xs i x h is =
     ∙ filter-append p (take i xs) (get_or xs i x ∷ [])
     ∙ ap (λ y. filter p (take i xs) ++ cond (p y) (y ∷ []) []) (sym is)
     ∙ ap (λ ys. ys ++ cond (p x) (x ∷ []) [])
-        (sym (filter-last_of p key k of (take i xs)) ∙ ap (filter p) (step_take key k xs i (omega arith)))
+    (sym (filter-last_of p key k of (take i xs)) ∙ ap (filter p) (step_take key k xs i (omega arith)))
 
 or_false : (b : Bool) → (b || false) ≡ b
 or_false true = refl
@@ -80,7 +82,7 @@ list_any_walked p key k of xs i x h is =
     ∙ ap (λ y. list_any p (take i xs) || (p y || false)) (sym is)
     ∙ ap (λ b. list_any p (take i xs) || b) (or_false (p x))
     ∙ ap (λ b. b || p x)
-        (sym (list_any-last_of p key k of (take i xs)) ∙ ap (list_any p) (step_take key k xs i (omega arith)))
+    (sym (list_any-last_of p key k of (take i xs)) ∙ ap (list_any p) (step_take key k xs i (omega arith)))
 
 -- a walk is at a place of the key, told as one more than it is, or has come to its end
 pub record IsOnWay {A : Type 0} (key : A → ℕ) (k : ℕ) (xs : List A) (at : ℕ) : Type 0 where
@@ -113,9 +115,9 @@ way_goes key k xs at next way some is =
     record {
       within = omega (arith, way.within, next_below key k xs at next way some is);
       of_key = λ more.
-        let found : 0 < last_of k (take (at - 1) (map key xs)) = rw is at more in
-        let before : next - 1 < at - 1 = omega (arith, next_below key k xs at next way some is) in
-        sym (get_or-take (at - 1) (map key xs) (next - 1) 0 before)
-        ∙ ap (λ n. get_or (take (at - 1) (map key xs)) (n - 1) 0) is
-        ∙ last_of-found k (take (at - 1) (map key xs)) found;
+          let found : 0 < last_of k (take (at - 1) (map key xs)) = rw is at more in
+          let before : next - 1 < at - 1 = omega (arith, next_below key k xs at next way some is) in
+          sym (get_or-take (at - 1) (map key xs) (next - 1) 0 before)
+          ∙ ap (λ n. get_or (take (at - 1) (map key xs)) (n - 1) 0) is
+          ∙ last_of-found k (take (at - 1) (map key xs)) found;
     }

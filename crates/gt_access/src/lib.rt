@@ -8,6 +8,8 @@ mod look_up;
 mod right;
 mod row;
 mod rules;
+#[cfg(test)]
+mod tests;
 
 pub use row::{AccessRow, Right};
 pub use rules::Rules;

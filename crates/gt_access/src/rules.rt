@@ -9,7 +9,7 @@ use crate::look_up::{has_same, live_at, live_place, right_on};
 use crate::row::{AccessRow, Right};
 use gt_paths::Path;
 use gt_types::{AccessSpec, Who};
-use gt_values::{Id, Table};
+use gt_values::Id;
 use std::alloc::{AllocError, Global};
 use std::marker::Model;
 
@@ -23,7 +23,7 @@ pub struct Rules {
     // The rows of one collection, without those of most others.
     chains: Chains,
     // The place of the newest row of each number.
-    newest: Table<usize>,
+    newest: Vec<usize>,
 }
 
 impl Model for Rules {
@@ -35,9 +35,9 @@ impl Model for Rules {
 
     ghost Value = { Rows AccessRow };
 
-    ghost view = { λ r. record { rows = r.rows.items; spare = min (vec_capacity r.rows - vec_len r.rows) (min r.chains.spare r.newest.spare) } };
+    ghost view = { λ r. record { rows = r.rows.items; spare = min (vec_capacity r.rows - vec_len r.rows) (min r.chains.spare (vec_capacity r.newest - vec_len r.newest)) } };
 
-    ghost invariant = { λ r. (r.chains.rows ≡ chains_of r.rows.items) × IsNumbered r.rows.items r.newest.rows };
+    ghost invariant = { λ r. (r.chains.rows ≡ chains_of r.rows.items) × IsNumbered r.rows.items r.newest.items };
 }
 
 impl Rules {
@@ -48,7 +48,7 @@ impl Rules {
         Rules {
             rows: Vec::new(alloc),
             chains: Chains::new(alloc),
-            newest: Table::new(alloc),
+            newest: Vec::new(alloc),
         }
     }
 
@@ -60,7 +60,7 @@ impl Rules {
     {
         self.rows.reserve(more as usize)?;
         self.chains.reserve(more)?;
-        self.newest.reserve(more)
+        self.newest.reserve(more as usize)
     }
 
     /// The rows, in order of making.
@@ -77,7 +77,7 @@ impl Rules {
         ensures rows { self.new.rows ≡ added_access born collection spec self.old.rows }
         ensures spare { self.new.spare + 1 ≡ self.old.spare }
     {
-        self.newest.add(self.rows.len());
+        self.newest.push_reserved(self.rows.len());
         let number = self.newest.len() as u64;
         self.chains.add((collection % 64) as u8);
         self.rows.push_reserved(AccessRow {
@@ -98,7 +98,7 @@ impl Rules {
         ensures rows { IfSome (live_access number self.old.rows) (λ row. self.new.rows ≡ replaced_access at next row self.old.rows) }
         ensures spare { self.old.spare ≤ self.new.spare + 1 }
     {
-        let place = live_at(&self.rows, self.newest.as_slice(), number);
+        let place = live_at(&self.rows, &self.newest, number);
         let collection = self.rows[place].collection;
         self.end(number, at);
         self.add_again(AccessRow {
@@ -119,7 +119,7 @@ impl Rules {
         ensures rows { self.new.rows ≡ self.old.rows ++ row ∷ [] }
         ensures spare { self.old.spare ≤ self.new.spare + 1 }
     {
-        let _ = self.newest.replace(row.number as usize - 1, self.rows.len());
+        self.newest[row.number as usize - 1] = self.rows.len();
         self.chains.add((row.collection % 64) as u8);
         self.rows.push_reserved(row);
     }
@@ -130,7 +130,7 @@ impl Rules {
         ensures rows { self.new.rows ≡ ended_access at number self.old.rows }
         ensures spare { self.new.spare ≡ self.old.spare }
     {
-        let place = live_at(&self.rows, self.newest.as_slice(), number);
+        let place = live_at(&self.rows, &self.newest, number);
         self.rows[place].ended = Some(at);
     }
 
@@ -138,7 +138,7 @@ impl Rules {
     pub fn live(&self, number: u64) -> Option<&AccessRow>
         ensures { option_copied result ≡ live_access number self.now.rows }
     {
-        match live_place(&self.rows, self.newest.as_slice(), number) {
+        match live_place(&self.rows, &self.newest, number) {
             Some(place) => Some(&self.rows[place]),
             None => None,
         }
@@ -156,14 +156,7 @@ impl Rules {
     /// The owner of the collection may write. For another caller the rules count that are alive at the event, born before it
     /// and not ended by then, whose principal matches the caller and whose path the asked path is under. Of these only those
     /// with the longest path decide, and of those the greatest permission is the right.
-    pub fn right_at(
-        &self,
-        seq: u64,
-        who: &Who,
-        collection: u32,
-        owner: &Id,
-        path: &Path,
-    ) -> Right
+    pub fn right_at(&self, seq: u64, who: &Who, collection: u32, owner: &Id, path: &Path) -> Right
         ensures { result ≡ right_of seq who.now collection owner.now path.now self.now.rows }
     {
         if *owner == who.identity {

@@ -22,8 +22,8 @@ loop-at-init c =
     record {
       way = way_starts chain_of_row key c.args.rows.now c.latest-at.result starts;
       left =
-        ap (λ n. list_any p (take n c.args.rows.now)) starts
-        ∙ list_any-last_of p chain_of_row key (is_same_rule-chain c.args.collection c.args.spec.now) c.args.rows.now;
+          ap (λ n. list_any p (take n c.args.rows.now)) starts
+          ∙ list_any-last_of p chain_of_row key (is_same_rule-chain c.args.collection c.args.spec.now) c.args.rows.now;
     }
 
 pub loop-at-smaller : goal.loop-at-smaller
@@ -38,8 +38,8 @@ loop-at-preserved c =
     record {
       way = way_goes chain_of_row key rows c.loop-at.at c.earlier-at.result c.loop-at.invariant.way c.loop-at-test.true (next c);
       left =
-        same_walked (is_same_rule c.args.collection c.args.spec.now) key (is_same_rule-chain c.args.collection c.args.spec.now) rows c.loop-at.at
+          same_walked (is_same_rule c.args.collection c.args.spec.now) key (is_same_rule-chain c.args.collection c.args.spec.now) rows c.loop-at.at
           c.earlier-at.result c.index-rows-at.result c.loop-at-test.true c.loop-at.invariant.way.within c.index-rows-at.is (next c)
           (sym c.is_same_rule.ensures ∙ c.if-is_same_rule.false)
-        ∙ c.loop-at.invariant.left;
+          ∙ c.loop-at.invariant.left;
     }

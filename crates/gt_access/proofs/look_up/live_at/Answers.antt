@@ -22,7 +22,7 @@ returns c =
     let given = live_number c.args.number c.args.rows.now c.args.newest.now c.requires.index c.requires.live in
     let place = get_or c.args.newest.now (c.args.number - 1) 0 in
     let last : last_of c.args.number (numbers_of c.args.rows.now) ≡ place + 1 =
-      last_place c.args.number c.args.rows.now c.args.newest.now c.requires.index given.0 given.1 in
+    last_place c.args.number c.args.rows.now c.args.newest.now c.requires.index given.0 given.1 in
     record {
       within = place_within c.args.number place c.args.rows.now last;
       row = live_at_place c.args.number place c.args.rows.now c.requires.index.ended last c.requires.live;

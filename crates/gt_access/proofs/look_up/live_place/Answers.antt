@@ -8,8 +8,9 @@ use Rattle.gt_access.proofs.look_up.live_place.Goals as goal
 pub returns-then-number-eq0-clause-row : goal.returns-then-number-eq0-clause-row
 returns-then-number-eq0-clause-row c =
     elim c.then-number-eq0.either [
-      inl zero_number ↦ sym (ap (λ n. live_access n c.args.rows.now) zero_number ∙ live_access-zero c.args.rows.now c.args.newest.now c.requires)
-    | inr above ↦ sym (live_access-above c.args.number c.args.rows.now c.args.newest.now c.requires above.1) ]
+      | inl zero_number ↦ sym (ap (λ n. live_access n c.args.rows.now) zero_number ∙ live_access-zero c.args.rows.now c.args.newest.now c.requires)
+      | inr above ↦ sym (live_access-above c.args.number c.args.rows.now c.args.newest.now c.requires above.1)
+    ]
 
 pub bounds-rows-place : goal.bounds-rows-place
 bounds-rows-place c =
@@ -18,8 +19,11 @@ bounds-rows-place c =
 
 pub offset_bounds-rows-place : goal.offset_bounds-rows-place
 offset_bounds-rows-place c =
-    omega (arith, place_within c.args.number (get_or c.args.newest.now (c.args.number - 1) 0) c.args.rows.now
-      (last_place c.args.number c.args.rows.now c.args.newest.now c.requires (omega arith) c.if-number-newest.false))
+    omega (
+      arith,
+      place_within c.args.number (get_or c.args.newest.now (c.args.number - 1) 0) c.args.rows.now
+          (last_place c.args.number c.args.rows.now c.args.newest.now c.requires (omega arith) c.if-number-newest.false),
+    )
 
 pub returns-then-is_none-clause-within : goal.returns-then-is_none-clause-within
 returns-then-is_none-clause-within c =

@@ -23,8 +23,8 @@ loop-at-init c =
     let key = chain_of c.args.collection in
     let starts : c.latest-at.result ≡ last_of key (chains_of c.args.rows.now) = c.latest-at.ensures ∙ ap (last_of key) c.requires in
     let whole : filter p (take c.latest-at.result c.args.rows.now) ≡ filter p c.args.rows.now =
-      ap (λ n. filter p (take n c.args.rows.now)) starts
-      ∙ filter-last_of p chain_of_row key (applies-chain c.args.seq c.args.who.now c.args.collection c.args.path.now) c.args.rows.now in
+    ap (λ n. filter p (take n c.args.rows.now)) starts
+    ∙ filter-last_of p chain_of_row key (applies-chain c.args.seq c.args.who.now c.args.collection c.args.path.now) c.args.rows.now in
     record {
       way = way_starts chain_of_row key c.args.rows.now c.latest-at.result starts;
       met = omega (arith, ap best_of whole, c.nothing-best.ensures);
@@ -42,17 +42,18 @@ loop-at-preserved c =
     let rows = c.args.rows.now in
     let row = c.index-rows-at.result in
     let walked =
-      best_walked p key (applies-chain c.args.seq c.args.who.now c.args.collection c.args.path.now) rows c.loop-at.at c.earlier-at.result row
-        c.loop-at-test.true c.loop-at.invariant.way.within c.index-rows-at.is (next c) in
+    best_walked p key (applies-chain c.args.seq c.args.who.now c.args.collection c.args.path.now) rows c.loop-at.at c.earlier-at.result row
+    c.loop-at-test.true c.loop-at.invariant.way.within c.index-rows-at.is (next c) in
     let best_now : score c.if-applies.best ≡ max (score c.loop-at.best) (cond (p row) (score_of row) 0) =
-      elim c.if-applies.branch [
-        then-applies w ↦
+    elim c.if-applies.branch [
+      | then-applies w ↦
           ap score w.best-is ∙ w.with-best.ensures
           ∙ ap (max (score c.loop-at.best)) (sym (cond-true (p row) (score_of row) 0 (sym c.applies.ensures ∙ w.if-applies.true)))
       | else-applies w ↦
           let same : score c.loop-at.best ≡ max (score c.loop-at.best) 0 = omega arith in
           ap score w.best-is ∙ same
-          ∙ ap (max (score c.loop-at.best)) (sym (cond-false (p row) (score_of row) 0 (sym c.applies.ensures ∙ w.if-applies.false))) ] in
+          ∙ ap (max (score c.loop-at.best)) (sym (cond-false (p row) (score_of row) 0 (sym c.applies.ensures ∙ w.if-applies.false)))
+    ] in
     record {
       way = way_goes chain_of_row key rows c.loop-at.at c.earlier-at.result c.loop-at.invariant.way c.loop-at-test.true (next c);
       met = omega (arith, c.loop-at.invariant.met, walked, best_now);

@@ -7,8 +7,8 @@ invariant_of-self c =
     let rows = c.self.inside.rows.items in
     let same : c.args.self.now.rows ≡ rows = sym (ap (λ v. v.rows) c.self.view_is) in
     let count : c.len.result ≡ length rows = omega arith in
-    let given : c.args.row.number ≤ length c.self.inside.newest.rows = omega (arith, rw same at c.requires.given, c.self.invariant.1.greatest) in
+    let given : c.args.row.number ≤ length c.self.inside.newest.items = omega (arith, rw same at c.requires.given, c.self.invariant.1.greatest) in
     IsIndexed-again c.args.row rows c.push_reserved.new.self.items c.self.inside.chains.rows c.add.new.self.rows
-    c.self.inside.newest.rows c.replace.new.self.rows c.self.invariant c.push_reserved.ensures.items c.add.ensures.rows
-    (c.replace.ensures.rows ∙ ap (set c.self.inside.newest.rows (c.args.row.number - 1)) count) (rw same at c.requires.ended) c.requires.from_one
+    c.self.inside.newest.items _ c.self.invariant c.push_reserved.ensures.items c.add.ensures.rows
+    (ap (set c.self.inside.newest.items (c.args.row.number - 1)) count) (rw same at c.requires.ended) c.requires.from_one
     given
