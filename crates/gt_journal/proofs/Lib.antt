@@ -1,0 +1,9 @@
+mod Steps
+mod Texts
+mod Fronts
+mod Unique
+mod Parse
+mod PieceLemmas
+mod Readings
+mod Ends
+mod Standings

@@ -1,0 +1,19 @@
+-- What a crash may leave of a journal between two records and within one, over a front of bytes that no call changes.
+use Rattle.std.specs.Prelude.{◌≡◌, ◌≢◌, ℕ, List, ◌∷◌, ◌++◌}
+use Rattle.gt_journal.specs.JournalText.{frame}
+
+-- the front, and then a closed gate, whatever stands behind it
+pub record Closed (front file : List ℕ) : Type 0 where
+  pub gate : ℕ
+  pub rest : List ℕ
+  pub whole : file ≡ front ++ gate ∷ rest
+  pub shut : gate ≢ 1
+
+-- the front, a gate, and behind it the whole frame of a body and a closed gate
+pub record Doubtful (front body : List ℕ) (gate : ℕ) (file : List ℕ) : Type 0 where
+  pub rest : List ℕ
+  pub whole : file ≡ front ++ gate ∷ (frame body ++ 0 ∷ rest)
+
+-- the same, whether the gate is open or closed
+abbrev pub InDoubt : List ℕ → List ℕ → List ℕ → Type 0
+InDoubt front body file = (gate : ℕ) × Doubtful front body gate file

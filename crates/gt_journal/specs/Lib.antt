@@ -1,0 +1,5 @@
+pub mod JournalText
+pub mod Gates
+pub mod Kept
+pub mod Settles
+pub mod Opening

@@ -1,0 +1,13 @@
+use gt_disk::Failed;
+use thiserror::Error;
+
+/// The disk failed in the call, and its count of faults rose.
+#[derive(Clone, Copy, Debug, PartialEq, Eq, Error)]
+#[error("the journal's disk failed")]
+pub struct JournalFault;
+
+impl From<Failed> for JournalFault {
+    fn from(_: Failed) -> Self {
+        JournalFault
+    }
+}
