@@ -66,7 +66,10 @@ pub fn read_script_line<S: Source>(
         Ok(LineEnd::Line) => *taken += 1,
         Err(StreamFault::ReadFault) => return Err(ScriptFault::SourceFault),
         Err(StreamFault::OutOfMemory) => return Err(ScriptFault::OutOfMemory),
-        Ok(LineEnd::EndOfInput { have: _ }) | Err(StreamFault::TooLong { max: _ }) => {
+        Ok(LineEnd::EndOfInput { have: _ }) => {
+            return Err(ScriptFault::Refused { line: number });
+        }
+        Err(StreamFault::TooLong { max: _ }) => {
             return Err(ScriptFault::Refused { line: number });
         }
         Err(StreamFault::Cut { have: _, want: _ }) => unreachable!(),

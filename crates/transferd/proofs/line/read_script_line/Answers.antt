@@ -1,5 +1,5 @@
 use Rattle.std.proofs.Common.{[], append_assoc, arith, length, rules, subst, sym, ◌++◌, ◌+◌, ◌<◌, ◌∙◌, ◌∷◌, ◌≡◌}
-use Rattle.transferd.proofs.FrontLemmas.{late_command, other_command}
+use Rattle.transferd.proofs.FrontLemmas.{late_command, long_command, no_newline, other_command}
 use Rattle.transferd.proofs.line.read_script_line.Goals as goal
 use Rattle.transferd.specs.Script.{BeginsNoLine, IsTextOf, most_script_bytes}
 use Rattle.transferd.specs.declared.line.Line.{Line}
@@ -55,3 +55,55 @@ returns-clause-stopped g c err told =
       whole = whole ∙ sym (append_assoc command (10 ∷ []) after);
       unfinished = other_command before command [] c.read_line-end.ensures.plain none;
     }
+
+pub returns-in-Ok-EndOfInput-clause-refused : goal.returns-in-Ok-EndOfInput-clause-refused
+returns-in-Ok-EndOfInput-clause-refused g c n is =
+    let bytes = c.read_line-end.new.into.items in
+    let before = c.args.taken.now in
+    let number : n ≡ c.args.number = search rules in (
+      number,
+      λ told.
+          let whole : g.S.Source.left c.args.script.now ≡ bytes = search rules in
+          subst (BeginsNoLine before) (sym whole) (no_newline before bytes c.read_line-end.ensures.plain),
+    )
+
+pub returns-in-Err-TooLong-clause-refused : goal.returns-in-Err-TooLong-clause-refused
+returns-in-Err-TooLong-clause-refused g c n is =
+    let bytes = c.read_line-end.new.into.items in
+    let after = g.S.Source.left c.read_line-end.new.source in
+    let before = c.args.taken.now in
+    let number : n ≡ c.args.number = search rules in
+    let long : length bytes ≡ 8193 = search rules in (
+      number,
+      λ told.
+          let whole : g.S.Source.left c.args.script.now ≡ bytes ++ after = search rules in
+          subst (BeginsNoLine before) (sym whole) (long_command before bytes after c.read_line-end.ensures.plain (omega (arith, long))),
+    )
+
+pub returns-in-Ok-EndOfInput-clause-stopped : goal.returns-in-Ok-EndOfInput-clause-stopped
+returns-in-Ok-EndOfInput-clause-stopped g c err told =
+    let bytes = c.read_line-end.new.into.items in
+    let after = g.S.Source.left c.read_line-end.new.source in
+    let whole : g.S.Source.left c.args.script.now ≡ bytes ++ after = search rules in
+    record { gone = bytes; whole = whole; unfinished = no_newline c.args.taken.now bytes c.read_line-end.ensures.plain }
+
+pub returns-in-Err-TooLong-clause-stopped : goal.returns-in-Err-TooLong-clause-stopped
+returns-in-Err-TooLong-clause-stopped g c err told =
+    let bytes = c.read_line-end.new.into.items in
+    let after = g.S.Source.left c.read_line-end.new.source in
+    let whole : g.S.Source.left c.args.script.now ≡ bytes ++ after = search rules in
+    record { gone = bytes; whole = whole; unfinished = no_newline c.args.taken.now bytes c.read_line-end.ensures.plain }
+
+pub returns-in-Err-ReadFault-clause-stopped : goal.returns-in-Err-ReadFault-clause-stopped
+returns-in-Err-ReadFault-clause-stopped g c err told =
+    let bytes = c.read_line-end.new.into.items in
+    let after = g.S.Source.left c.read_line-end.new.source in
+    let whole : g.S.Source.left c.args.script.now ≡ bytes ++ after = search rules in
+    record { gone = bytes; whole = whole; unfinished = no_newline c.args.taken.now bytes c.read_line-end.ensures.plain }
+
+pub returns-in-Err-OutOfMemory-clause-stopped : goal.returns-in-Err-OutOfMemory-clause-stopped
+returns-in-Err-OutOfMemory-clause-stopped g c err told =
+    let bytes = c.read_line-end.new.into.items in
+    let after = g.S.Source.left c.read_line-end.new.source in
+    let whole : g.S.Source.left c.args.script.now ≡ bytes ++ after = search rules in
+    record { gone = bytes; whole = whole; unfinished = no_newline c.args.taken.now bytes c.read_line-end.ensures.plain }
