@@ -1,0 +1,38 @@
+-- When an event has a step, and a record.
+use Rattle.std.proofs.Common.{◌≡◌, ◌≤◌, ◌+◌, length, Bool, true, false, Option, Some, None, arith, rules}
+use Rattle.std.specs.Prelude.{IsSome, is_some, nat_le, if◌then◌else◌, ◌&&◌}
+use Rattle.std.specs.Option.{option_map}
+use Rattle.gt_machine.specs.MachineState.{MachineState}
+use Rattle.gt_machine.specs.RuleSteps.{only_if}
+use Rattle.gt_machine.specs.Step.{counted_state, effect_of, is_allowed, may_come, next_of, step_of}
+use Rattle.gt_setup.specs.Setup.{Setup}
+use Rattle.gt_types.specs.Event.{is_recordable}
+use Rattle.gt_types.specs.declared.event.Event.{Event}
+
+pub both_hold : (a b : Bool) → a ≡ true → b ≡ true → (a && b) ≡ true
+both_hold true b in_a in_b = in_b
+both_hold false b in_a in_b = absurd (cc)
+
+-- an event may come that is at the greatest moment or later, within its forms, and allowed
+pub comes : (setup : Setup) (m : MachineState) (event : Event) → m.greatest ≤ event.moment → is_recordable (length setup.collections) event ≡ true
+    → is_allowed setup event.what ≡ true → may_come setup m event ≡ true
+comes setup m event later form allowed =
+    let test : nat_le m.greatest event.moment ≡ true = grind (arith, rules, later) in
+    both_hold _ _ (both_hold _ _ test form) allowed
+
+pub only_if_some : {X Y : Type 0} (f : X → Y) (test : Bool) (x : X) → test ≡ true → IsSome (option_map f (only_if test x))
+only_if_some f true x holds = grind rules
+only_if_some f false x holds = absurd (cc)
+
+pub step_there : (setup : Setup) (m : MachineState) (event : Event) → may_come setup m event ≡ true → IsSome (next_of m event) → IsSome (step_of setup m event)
+step_there setup m event may next = rw may next
+
+-- an event that may come, and that the tables allow, has a step
+pub step_not_none : (setup : Setup) (m : MachineState) (event : Event) → may_come setup m event ≡ true
+    → is_some (effect_of (m.events + 1) event.moment event.what m) ≡ true → step_of setup m event ≡ None → ⊥
+step_not_none setup m event may allowed none = by_cases (may_come setup m event) (effect_of (m.events + 1) event.moment event.what m) may allowed none
+  where
+    by_cases : (b : Bool) (o : Option MachineState) → b ≡ true → is_some o ≡ true → (if b then option_map (counted_state (m.events + 1) event.moment) o else None) ≡ None → ⊥
+    by_cases false o b_true o_there is = absurd (cc)
+    by_cases true None b_true o_there is = absurd (cc)
+    by_cases true (Some x) b_true o_there is = absurd (cc)

@@ -1,0 +1,13 @@
+pub mod Answer
+pub mod Change
+pub mod Growth
+pub mod Item
+pub mod MachineState
+pub mod RuleSteps
+pub mod Run
+pub mod Sound
+pub mod SoundRows
+pub mod Step
+pub mod TaskLine
+pub mod TaskSteps
+pub mod Tasks

@@ -1,0 +1,35 @@
+-- What holds in each state that events lead to.
+use Rattle.std.specs.Prelude.{All, IsTrue, length, ◌-◌, ◌^◌, ◌≡◌, ◌≤◌}
+use Rattle.gt_machine.specs.MachineState.{MachineState}
+use Rattle.gt_machine.specs.SoundRows.{HasOneLive, HasOneTaskEach, HasParentBefore, IsLife, IsNumbered, IsOfTask, rule_key}
+use Rattle.gt_setup.specs.Setup.{Setup}
+use Rattle.gt_values.specs.Forms.{is_moment}
+
+-- rows are numbered in order, and each item has its task, and its parent before it
+pub record IsNumberedState (m : MachineState) : Type 0 where
+  pub tasks : IsNumbered (λ task. task.number) m.tasks
+  pub items : IsNumbered (λ item. item.number) m.items
+  pub parents : All (HasParentBefore m) m.items
+  pub of_tasks : All (IsOfTask m) m.items
+
+-- the lives of rules
+pub record IsSoundRules (m : MachineState) : Type 0 where
+  pub access_lives : All (λ row. IsLife m.events row.born row.ended) m.access
+  pub access_numbers : HasOneLive (λ row. row.ended) (λ row. row.number) m.access
+  pub access_keys : HasOneLive (λ row. row.ended) rule_key m.access
+
+-- the numbers of rows and of issued identifiers are within their limits, and the greatest moment is one
+pub record IsWithinLimits (m : MachineState) : Type 0 where
+  pub tasks : length m.tasks ≤ 100000
+  pub items : length m.items ≤ 400000
+  pub access : length m.access ≤ 10000
+  pub issued : m.issued ≤ 2 ^ 48 - 1
+  pub greatest : IsTrue (is_moment m.greatest)
+
+-- what holds of the state that events lead to under the setup
+pub record IsSound (setup : Setup) (m : MachineState) : Type 0 where
+  pub named : m.namespace ≡ setup.namespace
+  pub numbered : IsNumberedState m
+  pub one_task_per_submission : HasOneTaskEach m.tasks
+  pub within_limits : IsWithinLimits m
+  pub rule_lives : IsSoundRules m

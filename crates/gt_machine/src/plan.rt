@@ -1,0 +1,135 @@
+ghost use Rattle.std.specs.Prelude.{◌≡◌, ◌<◌, ◌^◌, ◌↔◌, None, ℕ, IfOk, IsErrOf, IsSome, OnOk, is_some};
+ghost use Rattle.gt_machine.specs.Change.{HasRoom, IsPlanned, prepared_for};
+ghost use Rattle.gt_machine.specs.RuleSteps.{has_room};
+ghost use Rattle.gt_machine.specs.Run.{IsReached};
+ghost use Rattle.gt_machine.specs.Step as spec;
+ghost use Rattle.gt_machine.specs.Step.{effect_of, may_come, next_of, step_of};
+
+use crate::change::{Change, PlanFault, Prepared};
+use crate::forms::is_recordable;
+use crate::growth::first_items;
+use crate::state::State;
+use crate::task::find;
+use gt_setup::Setup;
+use gt_types::{AccessSpec, Event, Happening};
+use std::alloc::{AllocError, Global};
+
+// How many rows of access rules there are at most.
+const MAX_RULES: usize = 10_000;
+
+impl State {
+    /// All that the event's step takes memory for, with room for its rows. The machine stays as it is.
+    ///
+    /// `NoStep` comes exactly where the machine has no step on the event.
+    pub fn plan(&mut self, alloc: Global, setup: &Setup, event: Event) -> Result<Change, PlanFault>
+        requires reached { IsReached setup.now self.old.machine }
+        requires countable { self.old.machine.events < 2 ^ 63 }
+
+        ensures planned { IfOk result (λ change. (change.event ≡ event) × IsPlanned self.new change) }
+        ensures step { OnOk result (step_of setup.now self.old.machine event ≡ next_of self.old.machine event) }
+
+        ensures no_step { IsErrOf result PlanFault.NoStep ↔ (step_of setup.now self.old.machine event ≡ None) }
+        ensures unchanged { self.new.machine ≡ self.old.machine }
+    {
+        if !self.may_come(setup, &event) || !self.allows(&event.what) {
+            return Err(PlanFault::NoStep);
+        }
+        match self.prepare(alloc, &event.what) {
+            Ok(prepared) => Ok(Change { event, prepared }),
+            Err(_) => Err(PlanFault::OutOfMemory),
+        }
+    }
+
+    /// Whether the event may come now, whatever the tables hold.
+    fn may_come(&self, setup: &Setup, event: &Event) -> bool
+        ensures { result ≡ may_come setup.now self.now.machine event.now }
+    {
+        self.greatest <= event.moment
+            && is_recordable(setup.collections(), event)
+            && is_allowed(setup, &event.what)
+    }
+
+    /// Whether the tables allow what happens.
+    fn allows(&self, what: &Happening) -> bool
+        ensures { (k moment : ℕ) → result ≡ is_some (effect_of k moment what.now self.now.machine) }
+    {
+        match what {
+            Happening::Issue { .. } => self.can_issue(),
+            Happening::SubmitTransfer {
+                owner,
+                submission,
+                spec,
+            } => {
+                find(self.tasks.as_slice(), owner, submission).is_none()
+                    && !self.is_full(spec.entries.len())
+            }
+            Happening::AccessAdd { collection, spec } => {
+                self.has_room() && !self.access.same(*collection, spec)
+            }
+            Happening::AccessReplace { rule, .. } => {
+                self.has_room() && self.access.live(*rule).is_some()
+            }
+            Happening::AccessEnd { rule } => self.access.live(*rule).is_some(),
+        }
+    }
+
+    /// Whether there is room for a row of access rules more; ended rows count.
+    fn has_room(&self) -> bool
+        ensures { result ≡ has_room self.now.machine.access }
+    {
+        self.access.rows().len() < MAX_RULES
+    }
+
+    /// Takes the memory for what happens, which the tables allow.
+    fn prepare(&mut self, alloc: Global, what: &Happening) -> Result<Prepared, AllocError>
+        requires { IsSome (effect_of 0 0 what.now self.old.machine) }
+        ensures prepared { IfOk result (λ prepared. prepared ≡ prepared_for self.old.machine what.now) }
+        ensures room { IfOk result (HasRoom self.new.room what.now) }
+        ensures unchanged { self.new.machine ≡ self.old.machine }
+    {
+        match what {
+            Happening::Issue { .. } | Happening::AccessEnd { .. } => Ok(Prepared::Nothing),
+            Happening::SubmitTransfer { spec, .. } => {
+                let task = self.tasks.len() as u64 + 1;
+                let first = self.items.len() as u64 + 1;
+                let items = first_items(alloc, task, first, spec.entries.as_slice())?;
+                self.tasks.reserve(1)?;
+                self.items.reserve(items.len() as u64)?;
+                Ok(Prepared::Task {
+                    label: spec.label.clone()?,
+                    items,
+                })
+            }
+            Happening::AccessAdd { .. } => {
+                self.access.reserve(1)?;
+                Ok(Prepared::Nothing)
+            }
+            Happening::AccessReplace { rule, write } => {
+                self.access.reserve(1)?;
+                match self.access.live(*rule) {
+                    None => Ok(Prepared::Nothing),
+                    Some(row) => Ok(Prepared::Access {
+                        spec: AccessSpec {
+                            principal: row.spec.principal,
+                            path: row.spec.path.clone()?,
+                            write: *write,
+                        },
+                    }),
+                }
+            }
+        }
+    }
+}
+
+// Whether the setup allows what happens: it has the identity that acts.
+fn is_allowed(setup: &Setup, what: &Happening) -> bool
+    ensures { result ≡ spec.is_allowed setup.now what.now }
+{
+    match what {
+        Happening::Issue { identity } => setup.who(identity).is_some(),
+        Happening::SubmitTransfer { owner, .. } => setup.who(owner).is_some(),
+        Happening::AccessAdd { .. }
+        | Happening::AccessReplace { .. }
+        | Happening::AccessEnd { .. } => true,
+    }
+}
