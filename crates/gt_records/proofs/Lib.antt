@@ -1,0 +1,9 @@
+pub mod Decoded
+pub mod EventLaws
+pub mod FieldLaws
+pub mod Laws
+pub mod LimitLaws
+pub mod Loop
+pub mod SpecLaws
+pub mod SpecParts
+pub mod Utf8

@@ -1,0 +1,39 @@
+-- Reading values one after the other, as a loop does.
+use Rattle.std.proofs.Common.{◌≡◌, ℕ, suc, ◌-◌, ◌+◌, ◌≤◌, ◌<◌, List, [], ◌∷◌, ◌++◌, Option, Some, None, refl, sym, ap, ◌∙◌, append_assoc, arith}
+use Rattle.std.proofs.lemmas.List.{append-nil}
+use Rattle.gt_records.specs.declared.fault.DecodeFault.{DecodeFault}
+use Rattle.gt_records.specs.declared.fault.DecodeFault.TheVariants as faults
+use Rattle.gt_records.specs.Reading.{Fails, times_at}
+use Rattle.gt_values.specs.Grammar.{Read, ◌>>=◌}
+
+-- the values read before, and those still read
+abbrev pub with_front : {X : Type 0} → List X → Read (List X) → Read (List X)
+with_front front read = read >>= λ x. Some (front ++ x.0, x.1)
+
+regroup : {X : Type 0} (front : List X) (n : X) (read : Read (List X)) → with_front front (read >>= λ x. Some (n ∷ x.0, x.1)) ≡ with_front (front ++ n ∷ []) read
+regroup {X} front n (Some x) = ap (λ (ns : List X). Some (ns, x.1)) (simp append_assoc)
+regroup front n None = refl
+
+pub goes_on : {X : Type 0} (reader : List ℕ → Read X) (front : List X) (count i : ℕ) (bytes : List ℕ) (n : X) (after : List ℕ) (total : Read (List X)) → i < count → reader bytes ≡ Some (n, after)
+    → with_front front (times_at reader (count - i) bytes) ≡ total → with_front (front ++ n ∷ []) (times_at reader (count - (i + 1)) after) ≡ total
+unfolding times_at
+goes_on reader front count i bytes n after total lt h so_far =
+    let k : count - i ≡ suc (count - (i + 1)) = omega arith in
+    let one : with_front front (times_at reader (count - i) bytes) ≡ with_front (front ++ n ∷ []) (times_at reader (count - (i + 1)) after) = rw (k, h) (regroup front n (times_at reader (count - (i + 1)) after)) in
+    sym one ∙ so_far
+
+pub ends : {X : Type 0} (reader : List ℕ → Read X) (e : DecodeFault) (front : List X) (count i : ℕ) (bytes : List ℕ) (total : Read (List X)) → i < count → Fails e (reader bytes)
+    → with_front front (times_at reader (count - i) bytes) ≡ total → Fails e total
+unfolding times_at
+ends reader faults.OutOfMemory front count i bytes total lt h so_far = tt
+ends {X} reader faults.NotRecord front count i bytes total lt h so_far =
+    let k : count - i ≡ suc (count - (i + 1)) = omega arith in
+    let one : with_front front (times_at reader (count - i) bytes) ≡ None = rw (k, h) refl in
+    sym so_far ∙ one
+
+pub is_done : {X : Type 0} (reader : List ℕ → Read X) (front : List X) (count i : ℕ) (bytes : List ℕ) (total : Read (List X)) → count ≤ i → with_front front (times_at reader (count - i) bytes) ≡ total → total ≡ Some (front, bytes)
+unfolding times_at
+is_done {X} reader front count i bytes total le so_far =
+    let k : count - i ≡ 0 = omega arith in
+    let one : with_front front (times_at reader (count - i) bytes) ≡ Some (front, bytes) = rw k (ap (λ (ns : List X). Some (ns, bytes)) (append-nil front)) in
+    sym so_far ∙ one

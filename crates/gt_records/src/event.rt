@@ -1,0 +1,111 @@
+ghost use Rattle.gt_records.specs.Reading.{Gives};
+ghost use Rattle.gt_records.specs.ReadingEvents.{event_at, happening_at};
+ghost use Rattle.gt_records.specs.RecordText as text;
+ghost use Rattle.gt_records.specs.RecordText.{fields_text, record_text};
+ghost use Rattle.gt_types.specs.Event.{is_recordable, is_recordable_happening, recordable_collections};
+ghost use Rattle.std.specs.Prelude.{◌≡◌, ◌++◌, IsTrue, OnOk};
+
+use crate::fault::DecodeFault;
+use crate::field::Field;
+use crate::reader::Reader;
+use gt_types::{AccessSpec, Event, Happening, TransferSpec};
+use gt_values::{Id, Moment};
+use std::alloc::{AllocError, Global};
+
+/// The tag of an event.
+fn tag_of(what: &Happening) -> u8
+    ensures { result ≡ text.tag_of what.now }
+{
+    match what {
+        Happening::Issue { .. } => 1,
+        Happening::SubmitTransfer { .. } => 2,
+        Happening::AccessAdd { .. } => 4,
+        Happening::AccessReplace { .. } => 5,
+        Happening::AccessEnd { .. } => 6,
+    }
+}
+
+/// Appends the fields of what happens.
+fn write_fields(what: &Happening, into: &mut Vec<u8>) -> Result<(), AllocError>
+    requires { IsTrue (is_recordable_happening what.now) }
+    ensures { OnOk result (into.new.items ≡ into.old.items ++ fields_text what.now) }
+{
+    match what {
+        Happening::Issue { identity } => identity.write_to(into),
+        Happening::SubmitTransfer {
+            owner,
+            submission,
+            spec,
+        } => {
+            owner.write_to(into)?;
+            submission.write_to(into)?;
+            spec.write_to(into)
+        }
+        Happening::AccessAdd { collection, spec } => {
+            collection.write_to(into)?;
+            spec.write_to(into)
+        }
+        Happening::AccessReplace { rule, write } => {
+            rule.write_to(into)?;
+            write.write_to(into)
+        }
+        Happening::AccessEnd { rule } => rule.write_to(into),
+    }
+}
+
+/// What happens in an event of this tag.
+#[tactic(auto, unfolding(crate::specs::ReadingEvents::happening_at))]
+fn read_fields(alloc: Global, tag: u8, from: &mut Reader<'_>) -> Result<Happening, DecodeFault>
+    ensures { Gives result (happening_at tag from.old) from.new }
+{
+    match tag {
+        1 => Ok(Happening::Issue {
+            identity: Id::read_from(alloc, from)?,
+        }),
+        2 => {
+            let owner = Id::read_from(alloc, from)?;
+            let submission = Id::read_from(alloc, from)?;
+            let spec = TransferSpec::read_from(alloc, from)?;
+            Ok(Happening::SubmitTransfer {
+                owner,
+                submission,
+                spec,
+            })
+        }
+        4 => {
+            let collection = from.u32()?;
+            let spec = AccessSpec::read_from(alloc, from)?;
+            Ok(Happening::AccessAdd { collection, spec })
+        }
+        5 => {
+            let rule = from.u64()?;
+            let write = bool::read_from(alloc, from)?;
+            Ok(Happening::AccessReplace { rule, write })
+        }
+        6 => Ok(Happening::AccessEnd { rule: from.u64()? }),
+        _ => Err(DecodeFault::NotRecord),
+    }
+}
+
+impl Field for Event {
+    ghost text = { record_text };
+
+    ghost fits = { is_recordable recordable_collections };
+
+    ghost read_at = { event_at };
+
+    #[tactic(auto, unfolding(crate::specs::RecordText::record_text))]
+    fn write_to(&self, into: &mut Vec<u8>) -> Result<(), AllocError> {
+        tag_of(&self.what).write_to(into)?;
+        self.moment.write_to(into)?;
+        write_fields(&self.what, into)
+    }
+
+    #[tactic(auto, unfolding(crate::specs::ReadingEvents::event_at))]
+    fn read_from(alloc: Global, from: &mut Reader<'_>) -> Result<Event, DecodeFault> {
+        let tag = from.byte()?;
+        let moment = Moment::read_from(alloc, from)?;
+        let what = read_fields(alloc, tag, from)?;
+        Ok(Event { moment, what })
+    }
+}
