@@ -22,7 +22,7 @@ pub given : (bytes : List ℕ) (x : Event) → is_recordable recordable_collecti
 given bytes x h same = ap event_of (sym same) ∙ event_given x h
 
 pub is_given : (bytes : List ℕ) (r : Result Event DecodeFault) (x : Event) → event_of bytes ≡ Some x → IfOk r (λ y. event_of bytes ≡ Some y)
-  → (IsErrOf r faults.NotRecord → event_of bytes ≡ None) → MatchResult r (λ y. y ≡ x) (λ f. f ≡ faults.OutOfMemory)
+    → (IsErrOf r faults.NotRecord → event_of bytes ≡ None) → MatchResult r (λ y. y ≡ x) (λ f. f ≡ faults.OutOfMemory)
 is_given bytes (Ok y) x e found fault = let both = sym found ∙ e in cc
 is_given bytes (Err faults.OutOfMemory) x e found fault = refl
 is_given bytes (Err faults.NotRecord) x e found fault = absurd (let both = sym (fault refl) ∙ e in cc)

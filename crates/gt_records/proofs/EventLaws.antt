@@ -38,24 +38,24 @@ submission_same p =
     let low = ltb p.1.1.source (2 ^ 32) in
     let high = ltb p.1.1.destination (2 ^ 32) in
     same_answer (is_id p.0 && (is_id p.1.0 && is_spec p.1.1)) (is_recorded (submitted p))
-      (λ h.
-        let a = and_parts (is_id p.0) (is_id p.1.0 && is_spec p.1.1) h in
-        let b = and_parts (is_id p.1.0) (is_spec p.1.1) a.1 in
-        let c = and_parts low (high && is_transfer_spec p.1.1) b.1 in
-        let d = and_parts high (is_transfer_spec p.1.1) c.1 in
-        and_from _ _ (and_from _ _ c.0 d.0) (and_from _ _ (and_from _ _ a.0 b.0) d.1))
-      (λ h.
-        let a = and_parts (low && high) (is_id p.0 && is_id p.1.0 && is_transfer_spec p.1.1) h in
-        let b = and_parts low high a.0 in
-        let c = and_parts (is_id p.0 && is_id p.1.0) (is_transfer_spec p.1.1) a.1 in
-        let d = and_parts (is_id p.0) (is_id p.1.0) c.0 in
-        and_from _ _ d.0 (and_from _ _ d.1 (and_from _ _ b.0 (and_from _ _ b.1 c.1))))
+    (λ h.
+    let a = and_parts (is_id p.0) (is_id p.1.0 && is_spec p.1.1) h in
+    let b = and_parts (is_id p.1.0) (is_spec p.1.1) a.1 in
+    let c = and_parts low (high && is_transfer_spec p.1.1) b.1 in
+    let d = and_parts high (is_transfer_spec p.1.1) c.1 in
+    and_from _ _ (and_from _ _ c.0 d.0) (and_from _ _ (and_from _ _ a.0 b.0) d.1))
+    (λ h.
+    let a = and_parts (low && high) (is_id p.0 && is_id p.1.0 && is_transfer_spec p.1.1) h in
+    let b = and_parts low high a.0 in
+    let c = and_parts (is_id p.0 && is_id p.1.0) (is_transfer_spec p.1.1) a.1 in
+    let d = and_parts (is_id p.0) (is_id p.1.0) c.0 in
+    and_from _ _ d.0 (and_from _ _ d.1 (and_from _ _ b.0 (and_from _ _ b.1 c.1))))
 
 submission_reads : Reads (id_at ⊗ id_at ⊗ transfer_spec_at) (λ p. fields_text (submitted p)) (λ p. is_recorded (submitted p))
 submission_reads =
     Reads-as (λ p. fields_text (submitted p)) (λ p. is_recorded (submitted p))
-      (λ p. sym (append_assoc (id_text p.0) (id_text p.1.0) (transfer_spec_text p.1.1))) submission_same
-      (Reads-both id_reads (Reads-both id_reads transfer_spec_reads))
+    (λ p. sym (append_assoc (id_text p.0) (id_text p.1.0) (transfer_spec_text p.1.1))) submission_same
+    (Reads-both id_reads (Reads-both id_reads transfer_spec_reads))
 
 addition_reads : Reads (number_at w32 ⊗ access_spec_at) (λ p. fields_text (AccessAdd p.0 p.1)) (λ p. is_recorded (AccessAdd p.0 p.1))
 addition_reads = Reads-both u32_reads access_spec_reads
@@ -67,12 +67,12 @@ and_true false = refl
 replacement_reads : Reads (number_at w64 ⊗ boolean_at) (λ p. fields_text (AccessReplace p.0 p.1)) (λ p. is_recorded (AccessReplace p.0 p.1))
 replacement_reads =
     Reads-as (λ p. fields_text (AccessReplace p.0 p.1)) (λ p. is_recorded (AccessReplace p.0 p.1))
-      (λ p. refl) (λ p. and_true (is_u64 p.0)) (Reads-both u64_reads boolean_reads)
+    (λ p. refl) (λ p. and_true (is_u64 p.0)) (Reads-both u64_reads boolean_reads)
 
 -- ---- what happens, by its tag
 
 happening_takes : (tag : ℕ) (bytes : List ℕ) (x : Happening) (rest : List ℕ) → IsBytes bytes → happening_at tag bytes ≡ Some (x, rest)
-  → Takes bytes (fields_text x) rest × (is_recorded x ≡ true) × (tag_of x ≡ tag)
+    → Takes bytes (fields_text x) rest × (is_recorded x ≡ true) × (tag_of x ≡ tag)
 unfolding happening_at
 happening_takes tag bytes x rest fits e =
     let goal : Happening → Type 0 = λ y. Takes bytes (fields_text y) rest × (is_recorded y ≡ true) × (tag_of y ≡ tag) in
@@ -82,10 +82,10 @@ happening_takes tag bytes x rest fits e =
         | inl t ↦ let m = mapped_takes submitted submission_reads bytes x rest fits t.1 in subst goal m.1 (m.2, m.3, sym (eqb-true tag 2 t.0))
         | inr g ↦ elim (chosen (eqb tag 4) _ _ _ g.1) [
           | inl t ↦ let m = mapped_takes (λ (p : ℕ × AccessSpec). AccessAdd p.0 p.1) addition_reads bytes x rest fits t.1 in
-            subst goal m.1 (m.2, m.3, sym (eqb-true tag 4 t.0))
+              subst goal m.1 (m.2, m.3, sym (eqb-true tag 4 t.0))
           | inr h ↦ elim (chosen (eqb tag 5) _ _ _ h.1) [
             | inl t ↦ let m = mapped_takes (λ (p : ℕ × Bool). AccessReplace p.0 p.1) replacement_reads bytes x rest fits t.1 in
-              subst goal m.1 (m.2, m.3, sym (eqb-true tag 5 t.0))
+                subst goal m.1 (m.2, m.3, sym (eqb-true tag 5 t.0))
             | inr k ↦ elim (chosen (eqb tag 6) _ _ _ k.1) [
               | inl t ↦ let m = mapped_takes AccessEnd u64_reads bytes x rest fits t.1 in subst goal m.1 (m.2, m.3, sym (eqb-true tag 6 t.0))
               | inr none ↦ absurd (let no = none.1 in cc)
@@ -106,7 +106,7 @@ happening_again (AccessEnd rule) rest h = mapped_again AccessEnd u64_reads rule 
 -- ---- events
 
 tagged_takes : (tag : ℕ) (bytes : List ℕ) (x : Event) (rest : List ℕ) → IsBytes bytes → tagged_at tag bytes ≡ Some (x, rest)
-  → Takes bytes (moment_text x.moment ++ fields_text x.what) rest × ((is_moment x.moment && is_recorded x.what) ≡ true) × (tag_of x.what ≡ tag)
+    → Takes bytes (moment_text x.moment ++ fields_text x.what) rest × ((is_moment x.moment && is_recorded x.what) ≡ true) × (tag_of x.what ≡ tag)
 tagged_takes tag bytes x rest fits e =
     let made : ℕ × Happening → Event = λ p. record { moment = p.0; what = p.1 } in
     let a = bind_some ((moment_at ⊗ happening_at tag) bytes) (λ a. Some (made a.0, a.1)) (x, rest) e in
@@ -118,11 +118,11 @@ tagged_takes tag bytes x rest fits e =
     let whole : Event × List ℕ = (made a.0.0, a.0.1) in
     let goal : Event × List ℕ → Type 0 = λ y. Takes bytes (moment_text y.0.moment ++ fields_text y.0.what) y.1 × ((is_moment y.0.moment && is_recorded y.0.what) ≡ true) × (tag_of y.0.what ≡ tag) in
     subst goal (some_is whole (x, rest) a.2)
-      (subst (λ (y : (ℕ × Happening) × List ℕ). goal (made y.0, y.1)) (some_is pair a.0 c.2)
-        (Takes-then bytes (moment_text b.0.0) b.0.1 (fields_text c.0.0) c.0.1 m.0 w.0, and_from _ _ m.1 w.1, w.2))
+    (subst (λ (y : (ℕ × Happening) × List ℕ). goal (made y.0, y.1)) (some_is pair a.0 c.2)
+    (Takes-then bytes (moment_text b.0.0) b.0.1 (fields_text c.0.0) c.0.1 m.0 w.0, and_from _ _ m.1 w.1, w.2))
 
 tagged_again : (x : Event) (rest : List ℕ) → (is_moment x.moment && is_recorded x.what) ≡ true
-  → tagged_at (tag_of x.what) ((moment_text x.moment ++ fields_text x.what) ++ rest) ≡ Some (x, rest)
+    → tagged_at (tag_of x.what) ((moment_text x.moment ++ fields_text x.what) ++ rest) ≡ Some (x, rest)
 tagged_again x rest h =
     let parts = and_parts (is_moment x.moment) (is_recorded x.what) h in
     ap (tagged_at (tag_of x.what)) (append_assoc (moment_text x.moment) (fields_text x.what) rest)
@@ -139,8 +139,8 @@ event_reads : Reads event_at record_text (is_recordable recordable_collections)
 unfolding event_at record_text
 event_reads =
     Reads-as record_text (is_recordable recordable_collections) (λ x. refl)
-      (λ x. and_assoc (is_moment x.moment) (has_collections recordable_collections x.what) (is_recordable_happening x.what))
-      (Reads-led byte_reads tagged_follows)
+    (λ x. and_assoc (is_moment x.moment) (has_collections recordable_collections x.what) (is_recordable_happening x.what))
+    (Reads-led byte_reads tagged_follows)
 
 -- ---- all of the bytes
 

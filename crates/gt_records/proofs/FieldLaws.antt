@@ -30,17 +30,17 @@ bytes_of_all (b ∷ bytes) h (suc i) = bytes_of_all bytes (and_parts (ltb b 256)
 front_bytes : (x rest : List ℕ) → IsBytes (x ++ rest) → list_all (λ b. ltb b 256) x ≡ true
 front_bytes x rest fits =
     (and_parts (list_all (λ b. ltb b 256) x) (list_all (λ b. ltb b 256) rest)
-      (sym (list_all-append (λ b. ltb b 256) x rest) ∙ all_bytes (x ++ rest) fits)).0
+    (sym (list_all-append (λ b. ltb b 256) x rest) ∙ all_bytes (x ++ rest) fits)).0
 
 bytes_read : (n : ℕ) → Reads (bytes_at n) itself (is_bytes n)
 bytes_read n = record {
-    takes = λ bytes x rest fits e.
+  takes = λ bytes x rest fits e.
       let t = bytes_follow.takes n bytes x rest fits e in
       (t.0, and_from _ _ (eq-eqb _ _ t.2) (front_bytes x rest (subst IsBytes t.0.parts fits)));
-    again = λ x rest h.
+  again = λ x rest h.
       let parts = and_parts (eqb (length x) n) (list_all (λ b. ltb b 256) x) h in
       subst (λ (k : ℕ). bytes_at k (x ++ rest) ≡ Some (x, rest)) (eqb-true _ _ parts.0) (bytes_follow.again x rest refl);
-  }
+}
 
 -- ---- numbers
 
@@ -86,12 +86,12 @@ number_reads : (w : Width) (limit : ℕ) → IsWide w limit → Reads (number_at
 unfolding number_at
 number_reads w limit wide =
     Reads-mapped (from_be_bytes w) (to_be_bytes w) (λ n. ltb n limit)
-      (λ a h.
-        let parts = and_parts (eqb (length a) (byte_len w)) (list_all (λ b. ltb b 256) a) h in
-        let fits = bytes_of_all a parts.1 in
-        (wide.back a (eqb-true _ _ parts.0) fits, lt-ltb _ _ (wide.below a fits)))
-      (λ n h. (wide.again n (ltb-true n limit h), and_from _ _ (eq-eqb _ _ (wide.len n)) (high_first_small (byte_len w) n)))
-      (bytes_read (byte_len w))
+    (λ a h.
+    let parts = and_parts (eqb (length a) (byte_len w)) (list_all (λ b. ltb b 256) a) h in
+    let fits = bytes_of_all a parts.1 in
+    (wide.back a (eqb-true _ _ parts.0) fits, lt-ltb _ _ (wide.below a fits)))
+    (λ n h. (wide.again n (ltb-true n limit h), and_from _ _ (eq-eqb _ _ (wide.len n)) (high_first_small (byte_len w) n)))
+    (bytes_read (byte_len w))
 
 pub u16_reads : Reads (number_at w16) (number_text w16) (λ n. ltb n (2 ^ 16))
 u16_reads = number_reads w16 (2 ^ 16) wide16
@@ -112,8 +112,8 @@ pub moment_reads : Reads moment_at moment_text is_moment
 unfolding moment_at
 moment_reads =
     Reads-as moment_text is_moment (λ n. refl)
-      (λ n. narrower (ltb n (2 ^ 64)) (is_moment n) (λ h. lt-ltb _ _ (omega (arith, leb-true n last_moment h))))
-      (Reads-checked is_moment u64_reads)
+    (λ n. narrower (ltb n (2 ^ 64)) (is_moment n) (λ h. lt-ltb _ _ (omega (arith, leb-true n last_moment h))))
+    (Reads-checked is_moment u64_reads)
 
 -- ---- one byte
 
@@ -151,7 +151,7 @@ pub name_reads : Reads name_at name_text is_name
 unfolding name_at
 name_reads =
     Reads-as name_text is_name (λ name. refl) (λ name. narrower (is_utf8 name) (is_name name) (name_is_text name))
-      (Reads-led byte_reads (Follows-checked is_name text_follows))
+    (Reads-led byte_reads (Follows-checked is_name text_follows))
 
 -- a path has so few names that two bytes hold their number
 path_is_few : (path : List (List ℕ)) → is_path path ≡ true → ltb (length path) (2 ^ 16) ≡ true
@@ -164,7 +164,7 @@ pub path_reads : Reads path_at path_text is_path
 unfolding path_at
 path_reads =
     Reads-as path_text is_path (λ path. refl) (λ path. narrower (ltb (length path) (2 ^ 16)) (is_path path) (path_is_few path))
-      (Reads-led u16_reads (Follows-checked is_short_path (times_follow name_reads)))
+    (Reads-led u16_reads (Follows-checked is_short_path (times_follow name_reads)))
 
 -- an identifier
 pub id_reads : Reads id_at id_text is_id
@@ -179,26 +179,26 @@ value_text text None = []
 value_text text (Some x) = text x
 
 value_takes : {X : Type 0} {reader : List ℕ → Read X} {text : X → List ℕ} {valid : X → Bool} → Reads reader text valid
-  → (b : Bool) (bytes : List ℕ) (o : Option X) (rest : List ℕ) → IsBytes bytes → value_at reader b bytes ≡ Some (o, rest)
-  → Takes bytes (value_text text o) rest × (if_there valid o ≡ true) × (is_some o ≡ b)
+    → (b : Bool) (bytes : List ℕ) (o : Option X) (rest : List ℕ) → IsBytes bytes → value_at reader b bytes ≡ Some (o, rest)
+    → Takes bytes (value_text text o) rest × (if_there valid o ≡ true) × (is_some o ≡ b)
 value_takes {X} {reader} {text} {valid} p false bytes o rest fits e =
     let made : Option X × List ℕ = (None, bytes) in
     subst (λ (y : Option X × List ℕ). Takes bytes (value_text text y.0) y.1 × (if_there valid y.0 ≡ true) × (is_some y.0 ≡ false))
-      (some_is made (o, rest) e) (record { parts = refl; rest_fits = fits }, refl, refl)
+    (some_is made (o, rest) e) (record { parts = refl; rest_fits = fits }, refl, refl)
 value_takes {X} {reader} {text} {valid} p true bytes o rest fits e =
     let a = bind_some (reader bytes) (λ a. Some (Some a.0, a.1)) (o, rest) e in
     let s = p.takes bytes a.0.0 a.0.1 fits a.1 in
     let made : Option X × List ℕ = (Some a.0.0, a.0.1) in
     subst (λ (y : Option X × List ℕ). Takes bytes (value_text text y.0) y.1 × (if_there valid y.0 ≡ true) × (is_some y.0 ≡ true))
-      (some_is made (o, rest) a.2) (s.0, s.1, refl)
+    (some_is made (o, rest) a.2) (s.0, s.1, refl)
 
 value_again : {X : Type 0} {reader : List ℕ → Read X} {text : X → List ℕ} {valid : X → Bool} → Reads reader text valid
-  → (o : Option X) (rest : List ℕ) → if_there valid o ≡ true → value_at reader (is_some o) (value_text text o ++ rest) ≡ Some (o, rest)
+    → (o : Option X) (rest : List ℕ) → if_there valid o ≡ true → value_at reader (is_some o) (value_text text o ++ rest) ≡ Some (o, rest)
 value_again p None rest h = refl
 value_again p (Some x) rest h = rw (p.again x rest h) refl
 
 value_follows : {X : Type 0} {reader : List ℕ → Read X} {text : X → List ℕ} {valid : X → Bool} → Reads reader text valid
-  → Follows (value_at reader) is_some (value_text text) (if_there valid)
+    → Follows (value_at reader) is_some (value_text text) (if_there valid)
 value_follows p = record { takes = value_takes p; again = value_again p }
 
 option_same : {X : Type 0} (text : X → List ℕ) (o : Option X) → boolean_text (is_some o) ++ value_text text o ≡ option_text text o
@@ -206,13 +206,13 @@ option_same text None = refl
 option_same text (Some x) = refl
 
 pub option_reads : {X : Type 0} {reader : List ℕ → Read X} {text : X → List ℕ} {valid : X → Bool} → Reads reader text valid
-  → Reads (option_at reader) (option_text text) (if_there valid)
+    → Reads (option_at reader) (option_text text) (if_there valid)
 unfolding option_at
 option_reads {X} {reader} {text} {valid} p =
     Reads-as (option_text text) (if_there valid) (option_same text) (λ o. refl) (Reads-led boolean_reads (value_follows p))
 
 pub list_reads : {X : Type 0} {reader : List ℕ → Read X} {text : X → List ℕ} {valid : X → Bool} → Reads reader text valid
-  → Reads (list_at reader) (list_text text) (is_list valid)
+    → Reads (list_at reader) (list_text text) (is_list valid)
 unfolding list_at
 list_reads p = Reads-led u32_reads (times_follow p)
 
@@ -232,22 +232,22 @@ form_text AllAuthenticated = []
 form_text Anonymous = []
 
 principal_takes : (form : ℕ) (bytes : List ℕ) (x : Principal) (rest : List ℕ) → IsBytes bytes → principal_of form bytes ≡ Some (x, rest)
-  → Takes bytes (form_text x) rest × (is_principal x ≡ true) × (form_of x ≡ form)
+    → Takes bytes (form_text x) rest × (is_principal x ≡ true) × (form_of x ≡ form)
 principal_takes form bytes x rest fits e =
     let goal : Principal → Type 0 = λ y. Takes bytes (form_text y) rest × (is_principal y ≡ true) × (form_of y ≡ form) in
     elim (chosen (eqb form 1) _ _ _ e) [
       | inl t ↦ let m = mapped_takes Identity id_reads bytes x rest fits t.1 in
-        subst goal m.1 (m.2, m.3, sym (eqb-true form 1 t.0))
+          subst goal m.1 (m.2, m.3, sym (eqb-true form 1 t.0))
       | inr f ↦ elim (chosen (eqb form 2) _ _ _ f.1) [
         | inl t ↦ let m = mapped_takes Group id_reads bytes x rest fits t.1 in
-          subst goal m.1 (m.2, m.3, sym (eqb-true form 2 t.0))
+            subst goal m.1 (m.2, m.3, sym (eqb-true form 2 t.0))
         | inr g ↦ elim (chosen (eqb form 3) _ _ _ g.1) [
           | inl t ↦ let made : Principal × List ℕ = (AllAuthenticated, bytes) in
-            subst (λ (y : Principal × List ℕ). Takes bytes (form_text y.0) y.1 × (is_principal y.0 ≡ true) × (form_of y.0 ≡ form)) (some_is made (x, rest) t.1)
+              subst (λ (y : Principal × List ℕ). Takes bytes (form_text y.0) y.1 × (is_principal y.0 ≡ true) × (form_of y.0 ≡ form)) (some_is made (x, rest) t.1)
               (record { parts = refl; rest_fits = fits }, refl, sym (eqb-true form 3 t.0))
           | inr k ↦ elim (chosen (eqb form 4) _ _ _ k.1) [
             | inl t ↦ let made : Principal × List ℕ = (Anonymous, bytes) in
-              subst (λ (y : Principal × List ℕ). Takes bytes (form_text y.0) y.1 × (is_principal y.0 ≡ true) × (form_of y.0 ≡ form)) (some_is made (x, rest) t.1)
+                subst (λ (y : Principal × List ℕ). Takes bytes (form_text y.0) y.1 × (is_principal y.0 ≡ true) × (form_of y.0 ≡ form)) (some_is made (x, rest) t.1)
                 (record { parts = refl; rest_fits = fits }, refl, sym (eqb-true form 4 t.0))
             | inr none ↦ absurd (let no = none.1 in cc)
           ]

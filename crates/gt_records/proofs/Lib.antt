@@ -2,6 +2,7 @@ pub mod Decoded
 pub mod EventLaws
 pub mod FieldLaws
 pub mod Laws
+pub mod KeepLemmas
 pub mod LimitLaws
 pub mod Loop
 pub mod SpecLaws

@@ -105,7 +105,7 @@ kept_reads : Reads kept_at kept_text (λ _. true)
 unfolding kept_at
 kept_reads =
     Reads-mapped (λ p. record { given = p.0; set = p.1 }) (λ k. (k.given, k.set)) (λ _. true)
-      (λ a h. (refl, refl)) (λ b h. (refl, refl)) (Reads-both byte_reads byte_reads)
+    (λ a h. (refl, refl)) (λ b h. (refl, refl)) (Reads-both byte_reads byte_reads)
 
 abbrev is_rule_form : FilterRule → Bool
 is_rule_form rule = is_string rule.pattern
@@ -114,9 +114,9 @@ filter_rule_reads : Reads filter_rule_at filter_rule_text is_rule_form
 unfolding filter_rule_at
 filter_rule_reads =
     Reads-as filter_rule_text is_rule_form (λ r. simp append_assoc) (λ _. refl)
-      (Reads-mapped (λ p. record { include = p.0; kind = p.1.0; pattern = p.1.1 }) (λ r. (r.include, (r.kind, r.pattern))) is_rule_form
-        (λ a h. (refl, h)) (λ b h. (refl, h))
-        (Reads-both boolean_reads (Reads-both kind_reads string_reads)))
+    (Reads-mapped (λ p. record { include = p.0; kind = p.1.0; pattern = p.1.1 }) (λ r. (r.include, (r.kind, r.pattern))) is_rule_form
+    (λ a h. (refl, h)) (λ b h. (refl, h))
+    (Reads-both boolean_reads (Reads-both kind_reads string_reads)))
 
 abbrev is_entry_form : TransferEntry → Bool
 is_entry_form entry = is_path entry.source && (is_path entry.destination && true)
@@ -125,10 +125,10 @@ entry_reads : Reads entry_at entry_text is_entry_form
 unfolding entry_at
 entry_reads =
     Reads-as entry_text is_entry_form
-      (λ e. sym (append_assoc (path_text e.source) (path_text e.destination) (byte_text (recursive_code e.recursive)))) (λ _. refl)
-      (Reads-mapped (λ p. record { source = p.0; destination = p.1.0; recursive = p.1.1 }) (λ e. (e.source, (e.destination, e.recursive))) is_entry_form
-        (λ a h. (refl, h)) (λ b h. (refl, h))
-        (Reads-both path_reads (Reads-both path_reads recursive_reads)))
+    (λ e. sym (append_assoc (path_text e.source) (path_text e.destination) (byte_text (recursive_code e.recursive)))) (λ _. refl)
+    (Reads-mapped (λ p. record { source = p.0; destination = p.1.0; recursive = p.1.1 }) (λ e. (e.source, (e.destination, e.recursive))) is_entry_form
+    (λ a h. (refl, h)) (λ b h. (refl, h))
+    (Reads-both path_reads (Reads-both path_reads recursive_reads)))
 
 -- ---- transfer specifications
 
@@ -149,18 +149,18 @@ in_a_row : (a b c d e f g h i : List ℕ) → a ++ b ++ c ++ d ++ e ++ f ++ g ++
 in_a_row a b c d e f g h i = simp append_assoc
 
 same_text : (s : TransferSpec) → number_text w32 s.source ++ (number_text w32 s.destination ++ (option_text string_text s.label
-  ++ (option_text moment_text s.deadline ++ (option_text byte_text s.level ++ (byte_text (code_of (flags_in s)) ++ (kept_text s.kept
-  ++ (list_text filter_rule_text s.rules ++ list_text entry_text s.entries))))))) ≡ transfer_spec_text s
+    ++ (option_text moment_text s.deadline ++ (option_text byte_text s.level ++ (byte_text (code_of (flags_in s)) ++ (kept_text s.kept
+    ++ (list_text filter_rule_text s.rules ++ list_text entry_text s.entries))))))) ≡ transfer_spec_text s
 same_text s = sym (in_a_row (number_text w32 s.source) (number_text w32 s.destination) (option_text string_text s.label) (option_text moment_text s.deadline)
     (option_text byte_text s.level) (byte_text (code_of (flags_in s))) (kept_text s.kept) (list_text filter_rule_text s.rules) (list_text entry_text s.entries))
 
 spec_reads : Reads (mapped spec_of (number_at w32 ⊗ number_at w32 ⊗ option_at string_at ⊗ option_at moment_at ⊗ option_at byte_at
-      ⊗ coded_at flags_of ⊗ kept_at ⊗ list_at filter_rule_at ⊗ list_at entry_at)) transfer_spec_text has_forms
+    ⊗ coded_at flags_of ⊗ kept_at ⊗ list_at filter_rule_at ⊗ list_at entry_at)) transfer_spec_text has_forms
 spec_reads =
     Reads-as transfer_spec_text has_forms same_text (λ _. refl)
-      (Reads-mapped spec_of parts_of has_forms (λ a h. (refl, h)) (λ b h. (refl, h))
-        (Reads-both u32_reads (Reads-both u32_reads (Reads-both (option_reads string_reads) (Reads-both (option_reads moment_reads)
-          (Reads-both (option_reads byte_reads) (Reads-both flags_reads (Reads-both kept_reads (Reads-both (list_reads filter_rule_reads) (list_reads entry_reads))))))))))
+    (Reads-mapped spec_of parts_of has_forms (λ a h. (refl, h)) (λ b h. (refl, h))
+    (Reads-both u32_reads (Reads-both u32_reads (Reads-both (option_reads string_reads) (Reads-both (option_reads moment_reads)
+    (Reads-both (option_reads byte_reads) (Reads-both flags_reads (Reads-both kept_reads (Reads-both (list_reads filter_rule_reads) (list_reads entry_reads))))))))))
 
 -- a specification whose collections four bytes hold
 abbrev pub is_spec : TransferSpec → Bool
@@ -208,7 +208,7 @@ within_limits s h =
     let entries = and_parts count (list_all (apart s) s.entries) l5.1 in
     let good = list_all-both is_entry_form (apart s) (is_transfer_entry (eqb s.source s.destination)) (entry_both s) s.entries forms.1 entries.1 in
     and_from _ _ f0.0 (and_from _ _ f1.0
-      (and_from _ _ (and_from _ _ (and_from _ _ (and_from _ _ (and_from _ _ (and_from _ _ l1.0 f3.0) l1.1) l2.1) l3.1) l4.1) (and_from _ _ entries.0 good)))
+    (and_from _ _ (and_from _ _ (and_from _ _ (and_from _ _ (and_from _ _ (and_from _ _ l1.0 f3.0) l1.1) l2.1) l3.1) l4.1) (and_from _ _ entries.0 good)))
 
 within_forms : (s : TransferSpec) → is_spec s ≡ true → (has_forms s && is_within_limits s) ≡ true
 within_forms s h =
@@ -217,21 +217,21 @@ within_forms s h =
     let p = spec_parts s w1.1 in
     let test = is_transfer_entry (eqb s.source s.destination) in
     let rules_form = short_list is_rule_form 64 s.rules (omega arith) (leb-true (length s.rules) 64 p.few)
-        (list_all-map (λ rule. is_pattern rule.pattern) is_rule_form (λ rule. pattern_is_string rule.pattern) s.rules p.patterns) in
+    (list_all-map (λ rule. is_pattern rule.pattern) is_rule_form (λ rule. pattern_is_string rule.pattern) s.rules p.patterns) in
     let entries_form = short_list is_entry_form 10000 s.entries (omega arith) (leb-true (length s.entries) 10000 p.most)
-        (list_all-map test is_entry_form (entry_form s) s.entries p.entries) in
+    (list_all-map test is_entry_form (entry_form s) s.entries p.entries) in
     let separate = list_all-map test (apart s) (entry_apart s) s.entries p.entries in
     and_from _ _
-      (and_from _ _ w0.0 (and_from _ _ w1.0 (and_from _ _ (if_there-map is_label is_string label_is_string s.label p.label) (and_from _ _ p.deadline
-        (and_from _ _ (if_there-map (λ level. leb level 3) (λ _. true) (λ _ _. refl) s.level p.level) (and_from _ _ rules_form entries_form))))))
-      (and_from _ _ (and_from _ _ (and_from _ _ (and_from _ _ (and_from _ _ p.label p.level) p.kept) p.few) p.patterns) (and_from _ _ (and_from _ _ p.some p.most) separate))
+    (and_from _ _ w0.0 (and_from _ _ w1.0 (and_from _ _ (if_there-map is_label is_string label_is_string s.label p.label) (and_from _ _ p.deadline
+    (and_from _ _ (if_there-map (λ level. leb level 3) (λ _. true) (λ _ _. refl) s.level p.level) (and_from _ _ rules_form entries_form))))))
+    (and_from _ _ (and_from _ _ (and_from _ _ (and_from _ _ (and_from _ _ p.label p.level) p.kept) p.few) p.patterns) (and_from _ _ (and_from _ _ p.some p.most) separate))
 
 pub transfer_spec_reads : Reads transfer_spec_at transfer_spec_text is_spec
 unfolding transfer_spec_at
 transfer_spec_reads =
     Reads-as transfer_spec_text is_spec (λ _. refl)
-      (λ s. same_answer (has_forms s && is_within_limits s) (is_spec s) (within_limits s) (within_forms s))
-      (Reads-checked is_within_limits spec_reads)
+    (λ s. same_answer (has_forms s && is_within_limits s) (is_spec s) (within_limits s) (within_forms s))
+    (Reads-checked is_within_limits spec_reads)
 
 -- ---- access specifications
 
@@ -247,7 +247,7 @@ pub access_spec_reads : Reads access_spec_at access_spec_text is_access_spec
 unfolding access_spec_at
 access_spec_reads =
     Reads-as access_spec_text is_access_spec
-      (λ s. sym (append_assoc (principal_text s.principal) (path_text s.path) (boolean_text s.write))) access_same
-      (Reads-mapped (λ p. record { principal = p.0; path = p.1.0; write = p.1.1 }) (λ s. (s.principal, (s.path, s.write))) is_access_form
-        (λ a h. (refl, h)) (λ b h. (refl, h))
-        (Reads-both principal_reads (Reads-both path_reads boolean_reads)))
+    (λ s. sym (append_assoc (principal_text s.principal) (path_text s.path) (boolean_text s.write))) access_same
+    (Reads-mapped (λ p. record { principal = p.0; path = p.1.0; write = p.1.1 }) (λ s. (s.principal, (s.path, s.write))) is_access_form
+    (λ a h. (refl, h)) (λ b h. (refl, h))
+    (Reads-both principal_reads (Reads-both path_reads boolean_reads)))

@@ -38,8 +38,15 @@ spec_parts s h =
     let e1 = and_parts (some && most) (list_all test s.entries) l6.1 in
     let e0 = and_parts some most e1.0 in
     record {
-      label = l1.0; deadline = l1.1; level = l2.1; kept = l3.1; few = l4.1; patterns = l5.1;
-      some = e0.0; most = e0.1; entries = e1.1;
+      label = l1.0;
+      deadline = l1.1;
+      level = l2.1;
+      kept = l3.1;
+      few = l4.1;
+      patterns = l5.1;
+      some = e0.0;
+      most = e0.1;
+      entries = e1.1;
     }
 
 -- the lengths that are written fit their bytes

@@ -61,16 +61,25 @@ SpecFields =
 
 abbrev pub spec_of : SpecFields → TransferSpec
 spec_of (source, (destination, (label, (deadline, (level, (flags, (kept, (rules, entries)))))))) = record {
-    source = source; destination = destination; label = label; deadline = deadline; level = level;
-    verify = flags.verify; preserve = flags.preserve; extra = flags.extra; skip_source = flags.skip_source;
-    kept = kept; rules = rules; entries = entries;
-  }
+  source = source;
+  destination = destination;
+  label = label;
+  deadline = deadline;
+  level = level;
+  verify = flags.verify;
+  preserve = flags.preserve;
+  extra = flags.extra;
+  skip_source = flags.skip_source;
+  kept = kept;
+  rules = rules;
+  entries = entries;
+}
 
 unfoldable pub transfer_spec_at : List ℕ → Read TransferSpec
 transfer_spec_at =
     checked is_within_limits (mapped spec_of (
-      number_at w32 ⊗ number_at w32 ⊗ option_at string_at ⊗ option_at moment_at ⊗ option_at byte_at
-      ⊗ coded_at flags_of ⊗ kept_at ⊗ list_at filter_rule_at ⊗ list_at entry_at))
+    number_at w32 ⊗ number_at w32 ⊗ option_at string_at ⊗ option_at moment_at ⊗ option_at byte_at
+    ⊗ coded_at flags_of ⊗ kept_at ⊗ list_at filter_rule_at ⊗ list_at entry_at))
 
 unfoldable pub access_spec_at : List ℕ → Read AccessSpec
 access_spec_at =

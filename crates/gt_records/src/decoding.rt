@@ -36,5 +36,9 @@ fn decoded(alloc: Global, bytes: &[u8]) -> Result<Event, DecodeFault>
 {
     let mut from = Reader::new(bytes);
     let event = Event::read_from(alloc, &mut from)?;
-    if from.is_empty() { Ok(event) } else { Err(DecodeFault::NotRecord) }
+    if from.is_empty() {
+        Ok(event)
+    } else {
+        Err(DecodeFault::NotRecord)
+    }
 }

@@ -22,6 +22,12 @@ pub fn encode(alloc: Global, event: &Event) -> Result<Vec<u8>, AllocError>
 pub fn encode_into(event: &Event, into: &mut Vec<u8>) -> Result<(), AllocError>
     requires { IsTrue (is_recordable recordable_collections event.now) }
     ensures ok { OnOk result (into.new.items ≡ into.old.items ++ record_text event.now) }
+    ensures err { OnErr result (into.new.items ≡ into.old.items) }
 {
-    event.write_to(into)
+    let len = into.len();
+    let written = event.write_to(into);
+    if written.is_err() {
+        into.truncate(len);
+    }
+    written
 }

@@ -1,9 +1,12 @@
+#![tactic(auto, using(crate::proofs::KeepLemmas::keeping))]
+
+ghost use Rattle.gt_records.specs.Appending.{Keeps};
 ghost use Rattle.gt_records.specs.Reading.{Gives};
 ghost use Rattle.gt_records.specs.ReadingEvents.{event_at, happening_at};
 ghost use Rattle.gt_records.specs.RecordText as text;
 ghost use Rattle.gt_records.specs.RecordText.{fields_text, record_text};
 ghost use Rattle.gt_types.specs.Event.{is_recordable, is_recordable_happening, recordable_collections};
-ghost use Rattle.std.specs.Prelude.{◌≡◌, ◌++◌, IsTrue, OnOk};
+ghost use Rattle.std.specs.Prelude.{◌≡◌, ◌++◌, IsTrue, OnErr, OnOk};
 
 use crate::fault::DecodeFault;
 use crate::field::Field;
@@ -28,7 +31,8 @@ fn tag_of(what: &Happening) -> u8
 /// Appends the fields of what happens.
 fn write_fields(what: &Happening, into: &mut Vec<u8>) -> Result<(), AllocError>
     requires { IsTrue (is_recordable_happening what.now) }
-    ensures { OnOk result (into.new.items ≡ into.old.items ++ fields_text what.now) }
+    ensures ok { OnOk result (into.new.items ≡ into.old.items ++ fields_text what.now) }
+    ensures err { OnErr result (Keeps into.old.items into.new.items) }
 {
     match what {
         Happening::Issue { identity } => identity.write_to(into),
@@ -94,7 +98,7 @@ impl Field for Event {
 
     ghost read_at = { event_at };
 
-    #[tactic(auto, unfolding(crate::specs::RecordText::record_text))]
+    #[tactic(auto, using(crate::proofs::KeepLemmas::keeping), unfolding(crate::specs::RecordText::record_text))]
     fn write_to(&self, into: &mut Vec<u8>) -> Result<(), AllocError> {
         tag_of(&self.what).write_to(into)?;
         self.moment.write_to(into)?;

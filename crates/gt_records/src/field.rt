@@ -1,10 +1,13 @@
+#![tactic(auto, using(crate::proofs::KeepLemmas::keeping))]
+
+ghost use Rattle.gt_records.specs.Appending.{Keeps};
 ghost use Rattle.gt_records.specs.Fields.{boolean_text, byte_text, list_text, number_text, option_text};
 ghost use Rattle.gt_records.specs.Reading.{Gives, boolean_at, byte_at, list_at, number_at, option_at, times_at};
 ghost use Rattle.gt_values.specs.Forms.{if_there};
 ghost use Rattle.gt_values.specs.Grammar.{Read};
 ghost use Rattle.std.specs.Int.{w32, w64};
 ghost use Rattle.std.specs.List.{flat_map, list_all};
-ghost use Rattle.std.specs.Prelude.{◌≡◌, ◌++◌, ◌&&◌, ◌^◌, Bool, IsTrue, List, OnOk, length, nat_lt, true, ℕ};
+ghost use Rattle.std.specs.Prelude.{◌≡◌, ◌++◌, ◌&&◌, ◌^◌, Bool, IsTrue, List, OnErr, OnOk, length, nat_lt, true, ℕ};
 
 use crate::fault::DecodeFault;
 use crate::reader::Reader;
@@ -20,10 +23,11 @@ pub(crate) trait Field: Drop {
 
     ghost read_at: { List ℕ → Read Self };
 
-    /// Appends the text of the value.
+    /// Appends the text of the value. Part of it may stand at the end of the buffer after an error.
     fn write_to(&self, into: &mut Vec<u8>) -> Result<(), AllocError>
         requires { IsTrue (fits self.now) }
-        ensures { OnOk result (into.new.items ≡ into.old.items ++ text self.now) };
+        ensures ok { OnOk result (into.new.items ≡ into.old.items ++ text self.now) }
+        ensures err { OnErr result (Keeps into.old.items into.new.items) };
 
     /// The value at the front of the bytes that are left.
     fn read_from(alloc: Global, from: &mut Reader<'_>) -> Result<Self, DecodeFault>
@@ -136,10 +140,12 @@ impl<T: Field> Field for Sequence<T> {
     }
 }
 
-/// Appends the text of each value.
+/// Appends the text of each value. Part of it may stand at the end of the buffer after an error.
+#[tactic(auto, using(crate::proofs::KeepLemmas::keeping_on))]
 pub(crate) fn write_all<T: Field>(values: &[T], into: &mut Vec<u8>) -> Result<(), AllocError>
     requires { IsTrue (list_all T.fits values.now) }
-    ensures { OnOk result (into.new.items ≡ into.old.items ++ flat_map T.text values.now) }
+    ensures ok { OnOk result (into.new.items ≡ into.old.items ++ flat_map T.text values.now) }
+    ensures err { OnErr result (Keeps into.old.items into.new.items) }
 {
     for value in values {
         value.write_to(into)?;

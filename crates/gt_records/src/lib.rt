@@ -13,11 +13,10 @@ mod limits;
 mod path;
 mod reader;
 mod spec;
+#[cfg(test)]
+mod tests;
 mod unique;
 mod value;
-
-
-
 
 pub use decoding::decode;
 pub use encoding::{encode, encode_into};

@@ -87,7 +87,5 @@ fn are_entries(one_collection: bool, entries: &[TransferEntry]) -> bool
 fn are_apart(one_collection: bool, entries: &[TransferEntry]) -> bool
     ensures { result ≡ list_all (λ entry. not (one_collection && overlaps entry.source entry.destination)) entries.now }
 {
-    entries
-        .iter()
-        .all(|entry| !(one_collection && entry.source.overlaps(&entry.destination)))
+    entries.iter().all(|entry| !(one_collection && entry.source.overlaps(&entry.destination)))
 }

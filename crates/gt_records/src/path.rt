@@ -1,3 +1,5 @@
+#![tactic(auto, using(crate::proofs::KeepLemmas::keeping))]
+
 ghost use Rattle.gt_records.specs.Fields.{name_text, path_text};
 ghost use Rattle.gt_records.specs.Reading.{name_at, path_at};
 

@@ -1,3 +1,5 @@
+#![tactic(auto, using(crate::proofs::KeepLemmas::keeping))]
+
 ghost use Rattle.gt_records.specs.Fields.{byte_text};
 ghost use Rattle.gt_records.specs.Reading.{Gives, coded_at};
 ghost use Rattle.gt_records.specs.ReadingEvents.{access_spec_at, entry_at, filter_rule_at, flags_of, kept_at, kind_of, recursive_of, transfer_spec_at};
@@ -217,7 +219,11 @@ impl Field for TransferSpec {
             rules,
             entries,
         };
-        if is_within_limits(&spec) { Ok(spec) } else { Err(DecodeFault::NotRecord) }
+        if is_within_limits(&spec) {
+            Ok(spec)
+        } else {
+            Err(DecodeFault::NotRecord)
+        }
     }
 }
 

@@ -7,5 +7,4 @@ ghost use Rattle.std.specs.Prelude.{◌≡◌, IsTrue};
 pub fn record_text_unique()
     ensures { (a b : Event) → IsTrue (is_recordable recordable_collections a) → IsTrue (is_recordable recordable_collections b)
         → record_text a ≡ record_text b → a ≡ b }
-{
-}
+{}

@@ -1,3 +1,5 @@
+#![tactic(auto, using(crate::proofs::KeepLemmas::keeping))]
+
 ghost use Rattle.gt_records.specs.Fields.{id_text, moment_text, principal_text, string_text};
 ghost use Rattle.gt_records.specs.Reading.{id_at, moment_at, principal_at, string_at};
 ghost use Rattle.std.specs.Prelude.{◌^◌, length, nat_lt};
