@@ -1,5 +1,5 @@
 -- What decoding answers.
-use Rattle.std.proofs.Common.{◌≡◌, ℕ, true, List, Option, Some, None, Result, Ok, Err, refl, sym, ap, subst, ◌∙◌}
+use Rattle.std.proofs.Common.{◌≡◌, ℕ, true, List, Some, None, Result, Ok, Err, refl, sym, ap, ◌∙◌}
 use Rattle.std.specs.Prelude.{IfOk, IsErrOf, IsTrue, MatchResult}
 use Rattle.gt_records.specs.declared.fault.DecodeFault.{DecodeFault}
 use Rattle.gt_records.specs.declared.fault.DecodeFault.TheVariants as faults

@@ -1,9 +1,9 @@
 -- Events are read as they are written, so no text stands for two.
-use Rattle.std.proofs.Common.{◌≡◌, ℕ, ◌^◌, Bool, true, false, ◌&&◌, cond, eqb, ltb, List, [], ◌∷◌, ◌++◌, length, Option, Some, None, refl, sym, ap, subst, ◌∙◌, append_assoc, inl, inr}
+use Rattle.std.proofs.Common.{◌≡◌, ℕ, ◌^◌, Bool, true, false, ◌&&◌, cond, eqb, ltb, List, [], ◌++◌, length, Some, None, refl, sym, ap, subst, ◌∙◌, append_assoc, inl, inr}
 use Rattle.std.proofs.lemmas.Bool.{and_from, and_parts, eqb-true}
 use Rattle.std.proofs.lemmas.List.{append-nil, nil_from_length}
-use Rattle.gt_records.specs.Fields.{boolean_text, byte_text, id_text, moment_text, number_text}
-use Rattle.gt_records.specs.Reading.{boolean_at, byte_at, id_at, led, mapped, moment_at, number_at, ◌⊗◌}
+use Rattle.gt_records.specs.Fields.{id_text, moment_text}
+use Rattle.gt_records.specs.Reading.{boolean_at, id_at, moment_at, number_at, ◌⊗◌}
 use Rattle.gt_records.specs.ReadingEvents.{access_spec_at, event_at, event_of, happening_at, tagged_at, transfer_spec_at}
 use Rattle.gt_records.specs.RecordText.{fields_text, record_text, tag_of, transfer_spec_text}
 use Rattle.gt_records.proofs.FieldLaws.{boolean_reads, id_reads, moment_reads, u32_reads, u64_reads}
@@ -16,9 +16,9 @@ use Rattle.gt_types.specs.declared.event.Happening.TheVariants.{AccessAdd, Acces
 use Rattle.gt_types.specs.declared.rule.AccessSpec.{AccessSpec}
 use Rattle.gt_types.specs.declared.spec.TransferSpec.{TransferSpec}
 use Rattle.gt_types.specs.Event.{has_collections, is_recordable, is_recordable_happening, recordable_collections}
-use Rattle.gt_types.specs.SpecForms.{is_access_spec, is_transfer_spec}
+use Rattle.gt_types.specs.SpecForms.{is_transfer_spec}
 use Rattle.gt_values.specs.Forms.{is_id, is_moment, is_u64}
-use Rattle.gt_values.specs.Grammar.{Read, ◌>>=◌}
+use Rattle.gt_values.specs.Grammar.{◌>>=◌}
 use Rattle.std.specs.Int.{w32, w64}
 
 -- what happens within its limits, with collections that four bytes hold

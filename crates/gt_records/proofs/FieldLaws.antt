@@ -1,24 +1,24 @@
 -- Each kind of field is read as it is written.
-use Rattle.std.proofs.Common.{◌≡◌, ℕ, zero, suc, ◌+◌, ◌*◌, ◌<◌, ◌≤◌, ◌%◌, ◌/◌, ◌^◌, Bool, true, false, not, ◌&&◌, cond, eqb, ltb, leb, List, [], ◌∷◌, ◌++◌, length, get_or, Option, Some, None, refl, sym, ap, subst, ◌∙◌, arith, inl, inr, ◌⊎◌}
+use Rattle.std.proofs.Common.{◌≡◌, ℕ, zero, suc, ◌<◌, ◌/◌, ◌^◌, Bool, true, false, not, ◌&&◌, eqb, ltb, leb, List, [], ◌∷◌, ◌++◌, length, Option, Some, None, refl, sym, ap, subst, ◌∙◌, arith, inl, inr}
 use Rattle.std.specs.Int.{Width, byte_at as byte_of, byte_len, bytes_high_first, from_be_bytes, to_be_bytes, w16, w32, w64}
-use Rattle.std.specs.List.{flat_map, list_all, list_any}
+use Rattle.std.specs.List.{list_all, list_any}
 use Rattle.std.specs.Option.{is_some}
 use Rattle.std.specs.Str.{is_utf8}
-use Rattle.std.proofs.lemmas.Bool.{and_from, and_parts, eq-eqb, eqb-true, le-leb, leb-true, lt-ltb, ltb-true}
+use Rattle.std.proofs.lemmas.Bool.{and_from, and_parts, eq-eqb, eqb-true, leb-true, lt-ltb, ltb-true}
 use Rattle.std.proofs.lemmas.List.Folds.{list_all-append}
 use Rattle.std.proofs.lemmas.Nat.{be_bytes_2, be_bytes_4, be_bytes_8, from_be_bytes-to_be_bytes_2, from_be_bytes-to_be_bytes_4, from_be_bytes-to_be_bytes_8}
 use Rattle.std.proofs.Math.Nat.{mod-lt}
 use Rattle.gt_paths.specs.Name.{is_name, is_reserved, is_separator}
 use Rattle.gt_paths.specs.Path.{is_path, is_short_path, printed_len}
 use Rattle.gt_records.specs.Fields.{boolean_code, boolean_text, byte_text, id_text, list_text, moment_text, name_text, number_text, option_text, path_text, principal_text, string_text}
-use Rattle.gt_records.specs.Reading.{boolean_at, boolean_of, byte_at, bytes_at, checked, coded_at, id_at, led, list_at, mapped, moment_at, name_at, number_at, option_at, path_at, principal_at, principal_of, string_at, times_at, utf8_at, value_at}
+use Rattle.gt_records.specs.Reading.{boolean_at, boolean_of, bytes_at, id_at, list_at, moment_at, name_at, number_at, option_at, path_at, principal_at, principal_of, string_at, utf8_at, value_at}
 use Rattle.gt_records.proofs.Laws.{Follows, Follows-checked, IsBytes, Reads, Reads-as, Reads-checked, Reads-coded, Reads-led, Reads-mapped, Takes, all_bytes, bind_some, byte_reads, chosen, mapped_takes, bytes_follow, itself, some_is, times_follow}
 use Rattle.gt_records.proofs.LimitLaws.{is_list, is_string}
 use Rattle.gt_types.specs.declared.rule.Principal.{Principal}
 use Rattle.gt_types.specs.declared.rule.Principal.TheVariants.{AllAuthenticated, Anonymous, Group, Identity}
 use Rattle.gt_types.specs.Forms.{is_principal}
 use Rattle.gt_values.specs.Forms.{if_there, is_bytes, is_id, is_moment}
-use Rattle.gt_values.specs.Grammar.{Read, ◌>>=◌}
+use Rattle.gt_values.specs.Grammar.{Read}
 use Rattle.gt_values.specs.Moment.{last_moment}
 
 bytes_of_all : (bytes : List ℕ) → list_all (λ b. ltb b 256) bytes ≡ true → IsBytes bytes

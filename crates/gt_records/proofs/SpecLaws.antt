@@ -1,12 +1,12 @@
 -- Specifications are read as they are written.
-use Rattle.std.proofs.Common.{◌≡◌, ℕ, zero, suc, ◌+◌, ◌*◌, ◌<◌, ◌≤◌, ◌%◌, ◌/◌, ◌^◌, Bool, true, false, not, ◌&&◌, cond, eqb, ltb, leb, List, [], ◌∷◌, ◌++◌, length, Option, Some, None, refl, sym, ap, subst, ◌∙◌, append_assoc, arith, inl, inr}
+use Rattle.std.proofs.Common.{◌≡◌, ℕ, zero, suc, ◌+◌, ◌*◌, ◌<◌, ◌%◌, ◌/◌, ◌^◌, Bool, true, false, not, ◌&&◌, eqb, ltb, leb, List, ◌++◌, length, Option, Some, None, refl, sym, ap, subst, append_assoc, arith}
 use Rattle.std.specs.Int.{w32}
 use Rattle.std.specs.List.{list_all}
-use Rattle.std.proofs.lemmas.Bool.{and_from, and_parts, leb-true, lt-ltb, ltb-true}
+use Rattle.std.proofs.lemmas.Bool.{and_from, and_parts, leb-true, ltb-true}
 use Rattle.gt_paths.specs.Path.{is_path, overlaps}
 use Rattle.gt_records.specs.declared.spec.Flags.{Flags}
 use Rattle.gt_records.specs.Fields.{boolean_code, boolean_text, byte_text, list_text, moment_text, number_text, option_text, path_text, principal_text, string_text}
-use Rattle.gt_records.specs.Reading.{boolean_at, byte_at, checked, coded_at, list_at, mapped, moment_at, number_at, option_at, path_at, principal_at, string_at, ◌⊗◌}
+use Rattle.gt_records.specs.Reading.{byte_at, coded_at, list_at, mapped, moment_at, number_at, option_at, string_at, ◌⊗◌}
 use Rattle.gt_records.specs.ReadingEvents.{SpecFields, access_spec_at, entry_at, filter_rule_at, flags_of, is_within_limits, kept_at, kind_of, recursive_of, spec_of, transfer_spec_at}
 use Rattle.gt_records.specs.RecordText.{access_spec_text, entry_text, filter_rule_text, flags_code, kept_text, kind_code, recursive_code, transfer_spec_text}
 use Rattle.gt_records.proofs.FieldLaws.{boolean_reads, list_reads, moment_reads, option_reads, path_reads, principal_reads, string_reads, u32_reads}
@@ -17,7 +17,6 @@ use Rattle.gt_types.specs.declared.listing.Kind.{Kind}
 use Rattle.gt_types.specs.declared.listing.Kind.TheVariants.{File, Folder}
 use Rattle.gt_types.specs.declared.rule.AccessSpec.{AccessSpec}
 use Rattle.gt_types.specs.declared.spec.FilterRule.{FilterRule}
-use Rattle.gt_types.specs.declared.spec.Kept.{Kept}
 use Rattle.gt_types.specs.declared.spec.TransferEntry.{TransferEntry}
 use Rattle.gt_types.specs.declared.spec.TransferSpec.{TransferSpec}
 use Rattle.gt_types.specs.Forms.{is_entries, is_kept, is_label, is_pattern, is_principal}

@@ -1,8 +1,8 @@
 -- The parts of a specification that is within its limits.
-use Rattle.std.proofs.Common.{◌≡◌, ℕ, ◌^◌, ◌<◌, Bool, true, ◌&&◌, eqb, leb, ltb, List, length, Option, refl, arith}
+use Rattle.std.proofs.Common.{◌≡◌, ℕ, ◌^◌, true, ◌&&◌, eqb, leb, ltb, List, length, arith}
 use Rattle.std.specs.List.{list_all}
 use Rattle.std.proofs.lemmas.Bool.{and_parts, leb-true}
-use Rattle.gt_records.proofs.LimitLaws.{all_true, if_there-map, is_list, is_string, label_is_string, short_list}
+use Rattle.gt_records.proofs.LimitLaws.{all_true, if_there-map, is_list, label_is_string, short_list}
 use Rattle.gt_types.specs.declared.spec.TransferSpec.{TransferSpec}
 use Rattle.gt_types.specs.Forms.{is_entries, is_kept, is_label, is_pattern}
 use Rattle.gt_types.specs.SpecForms.{is_transfer_entry, is_transfer_spec}

@@ -1,7 +1,7 @@
 -- Reading an event from the front of a list of bytes.
 use Rattle.std.specs.Int.{w32, w64}
 use Rattle.std.specs.List.{list_all}
-use Rattle.std.specs.Prelude.{Bool, List, None, Option, Some, false, if◌then◌else◌, length, nat_le, nat_lt, not, suc, true, zero, ℕ, ◌%◌, ◌&&◌, ◌/◌, ◌==◌, ◌∷◌}
+use Rattle.std.specs.Prelude.{Bool, List, None, Option, Some, false, if◌then◌else◌, length, nat_le, nat_lt, not, suc, true, zero, ℕ, ◌%◌, ◌&&◌, ◌/◌, ◌==◌}
 use Rattle.gt_paths.specs.Path.{overlaps}
 use Rattle.gt_records.specs.Reading.{boolean_at, byte_at, checked, coded_at, id_at, led, list_at, mapped, moment_at, number_at, option_at, path_at, principal_at, string_at, ◌⊗◌}
 use Rattle.gt_records.specs.declared.spec.Flags.{Flags}

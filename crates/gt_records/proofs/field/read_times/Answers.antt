@@ -1,4 +1,3 @@
-use Rattle.std.proofs.Common.{◌≡◌, ◌++◌, ◌∷◌, []}
 use Rattle.std.proofs.lemmas.Result.{err_from_is_err_and}
 use Rattle.gt_records.specs.Reading.{times_at}
 use Rattle.gt_records.proofs.Loop.{ends, goes_on, is_done}
