@@ -1,0 +1,5 @@
+pub mod CharLemmas
+pub mod ClassLemmas
+pub mod FilterLemmas
+pub mod MatchLemmas
+pub mod PassedLemmas
