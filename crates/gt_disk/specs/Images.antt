@@ -1,6 +1,7 @@
 -- What a crash may leave of a file in memory, told from the calls that it answered.
 use Rattle.std.specs.Prelude.{◌≡◌, ◌⊎◌, ℕ, ◌+◌, ◌≤◌, List, [], ◌∷◌, ◌++◌, length, take, drop, Bool, true, ◌&&◌, nat_le}
-use Rattle.std.proofs.Common.{subst, sym, arith}
+use Rattle.std.proofs.Common.{subst, sym}
+use Rattle.std.proofs.Math.Nat.{le_refl}
 use Rattle.std.proofs.lemmas.List.{take_all}
 use Rattle.gt_disk.specs.TornWrites.{Reaches}
 
@@ -60,7 +61,7 @@ LeftSince start steps t c = (k : ℕ) × (t ≤ k) × (k ≤ length steps) × Is
 
 -- this moment is one of those since an earlier one
 pub counts : (start : List ℕ) (steps : List Step) (t : ℕ) (c : List ℕ) → t ≤ length steps → IsImage (state_of start steps) c → LeftSince start steps t c
-counts start steps t c le image = (length steps, le, omega arith, subst (λ (done : List Step). IsImage (state_of start done) c) (sym (take_all (length steps) steps (omega arith))) image)
+counts start steps t c le image = (length steps, le, le_refl (length steps), subst (λ (done : List Step). IsImage (state_of start done) c) (sym (take_all (length steps) steps (le_refl (length steps)))) image)
 
 -- since this moment there is no other
 pub only : (start : List ℕ) (steps : List Step) (c : List ℕ) → LeftSince start steps (length steps) c → IsImage (state_of start steps) c

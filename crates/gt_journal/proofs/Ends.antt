@@ -1,5 +1,5 @@
 -- What a crash leaves while the end of a file is closed.
-use Rattle.std.proofs.Common.{◌≡◌, inl, ℕ, ◌+◌, ◌<◌, List, [], ◌∷◌, ◌++◌, length, take, drop, sym, ◌∙◌, ap, subst, arith, length-append, length-drop, take-append-drop}
+use Rattle.std.proofs.Common.{◌≡◌, inl, ℕ, ◌<◌, List, ◌++◌, length, take, drop, sym, ◌∙◌, ap, subst, arith, length-drop, take-append-drop}
 use Rattle.std.proofs.lemmas.List.{take_at}
 use Rattle.gt_disk.specs.Disk.{Torn, Only, Follows}
 use Rattle.gt_journal.specs.JournalText.{texts, IsJournalText}

@@ -2,7 +2,7 @@
 use Rattle.std.proofs.Common.{◌≡◌, ◌⊎◌, inl, inr, ℕ, zero, suc, ◌+◌, ◌^◌, ◌<◌, ◌≤◌, List, [], ◌∷◌, ◌++◌, length, get_or, take, drop, refl, sym, ap, arith, length-append, length-take, length-drop, take-append-drop}
 use Rattle.std.proofs.lemmas.Bool.{cases_lt, cases_eq}
 use Rattle.std.specs.Int.{w64, from_be_bytes}
-use Rattle.gt_journal.specs.JournalText.{texts, IsTail, IsCutOff, IsJournalText, IsDamagedAfter}
+use Rattle.gt_journal.specs.JournalText.{texts, IsTail, IsJournalText, IsDamagedAfter}
 use Rattle.gt_journal.specs.Opening.{Reads}
 use Rattle.gt_journal.proofs.Parse.{IsBytes, record_more}
 
@@ -26,10 +26,10 @@ goes (suc n) file rest bodies long small bytes reads =
         | inl gate ↦ elim (cases_lt (length rest) (9 + size)) [
           | inl short ↦ inr (bodies, record { fit = reads.fit; rest = rest; whole = reads.whole; cut_off = record { gate = gate; header = header; short = short } })
           | inr whole ↦
-            let is : length body ≡ size = omega (arith, length-take size after, length-drop 9 rest, whole) in
-            goes n file (drop size after) (bodies ++ body ∷ []) (omega (arith, length-drop size after, length-drop 9 rest, header, long)) small bytes
-            (record_more file rest body (drop size after) bodies reads header gate bytes (sym (take-append-drop size after)) is
-            (omega (arith, is, whole, small, ap length reads.whole, length-append (texts bodies) rest)))
+              let is : length body ≡ size = omega (arith, length-take size after, length-drop 9 rest, whole) in
+              goes n file (drop size after) (bodies ++ body ∷ []) (omega (arith, length-drop size after, length-drop 9 rest, header, long)) small bytes
+              (record_more file rest body (drop size after) bodies reads header gate bytes (sym (take-append-drop size after)) is
+              (omega (arith, is, whole, small, ap length reads.whole, length-append (texts bodies) rest)))
         ]
       ]
     ]

@@ -14,6 +14,8 @@ mod opening;
 mod pieces;
 mod reading;
 mod settled;
+#[cfg(test)]
+mod tests;
 
 pub use fault::JournalFault;
 pub use journal::Journal;

@@ -1,4 +1,4 @@
-use Rattle.std.proofs.Common.{◌≡◌, ℕ, ◌+◌, List, [], ◌∷◌, ◌++◌, length, ◌∙◌, sym, subst}
+use Rattle.std.proofs.Common.{ℕ, List, ◌∙◌, sym, subst}
 use Rattle.gt_disk.proofs.Moments.{started, goes_on}
 use Rattle.gt_journal.specs.Gates.{Doubtful, InDoubt}
 use Rattle.gt_journal.proofs.Steps.{torn_gate, written_gate}

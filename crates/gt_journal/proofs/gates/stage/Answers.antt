@@ -1,7 +1,6 @@
-use Rattle.std.proofs.Common.{◌≡◌, ℕ, ◌+◌, List, [], ◌∷◌, ◌++◌, length, ◌∙◌, sym, subst}
+use Rattle.std.proofs.Common.{ℕ, ◌+◌, List, ◌∙◌, sym, subst}
 use Rattle.gt_disk.specs.Disk.{Holds}
 use Rattle.gt_disk.proofs.Moments.{started, goes_on}
-use Rattle.gt_journal.specs.JournalText.{frame}
 use Rattle.gt_journal.specs.Gates.{Closed, Doubtful}
 use Rattle.gt_journal.proofs.Steps.{torn_behind, written_behind}
 use Rattle.gt_journal.proofs.gates.stage.Goals as goal

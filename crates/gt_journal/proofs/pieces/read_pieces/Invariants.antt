@@ -1,4 +1,4 @@
-use Rattle.std.proofs.Common.{◌≡◌, ◌≤◌, ◌-◌, ℕ, length, IsTrue}
+use Rattle.std.proofs.Common.{◌≡◌, ◌≤◌, ◌-◌, length, IsTrue}
 use Rattle.gt_journal.proofs.PieceLemmas.{IsReadTo}
 use Rattle.gt_journal.proofs.pieces.read_pieces.Given as goal
 

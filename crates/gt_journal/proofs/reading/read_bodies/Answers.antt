@@ -1,4 +1,4 @@
-use Rattle.std.proofs.Common.{rules, ◌≡◌, ◌≤◌, ◌-◌, ◌<◌, ◌++◌, [], ◌∷◌, List, ℕ, length, take, drop, map, take-append-drop, sym, ◌∙◌, ap, subst, arith}
+use Rattle.std.proofs.Common.{rules, ◌≡◌, ◌-◌, ◌++◌, [], ◌∷◌, List, ℕ, length, take, drop, take-append-drop, sym, ◌∙◌, ap, subst, arith}
 use Rattle.std.proofs.lemmas.List.{map-append, take_rest}
 use Rattle.std.specs.Int.{w64, from_be_bytes}
 use Rattle.gt_journal.specs.JournalText.{Fits}

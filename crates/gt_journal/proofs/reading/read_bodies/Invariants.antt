@@ -1,5 +1,5 @@
-use Rattle.std.proofs.Common.{◌≡◌, ◌≤◌, length, ℕ}
-use Rattle.gt_journal.specs.Opening.{lists, Reads, IsRest}
+use Rattle.std.proofs.Common.{length}
+use Rattle.gt_journal.specs.Opening.{lists, Reads}
 use Rattle.gt_journal.proofs.reading.read_bodies.Given as goal
 
 abbrev pub invariant-loop-rest : goal.invariant-loop-rest

@@ -1,6 +1,5 @@
-use Rattle.std.proofs.Common.{ℕ, ◌<◌, ◌^◌, length, take, ◌∙◌, ap, subst}
+use Rattle.std.proofs.Common.{◌<◌, ◌^◌, length, take, ◌∙◌, ap, subst}
 use Rattle.gt_disk.specs.Disk.{NoMore}
-use Rattle.gt_journal.specs.JournalText.{IsFront}
 use Rattle.gt_journal.specs.Kept.{doubt_of, IsTextWithDoubt}
 use Rattle.gt_journal.proofs.Standings.{few_bodies, left_texts}
 use Rattle.gt_journal.proofs.journal.Journal.in_doubt.Goals as goal

@@ -1,5 +1,5 @@
-use Rattle.std.proofs.Common.{arith, ◌≡◌, ◌+◌, ◌<◌, ◌≤◌, List, ℕ, None, length, take, refl, sym, ◌∙◌, ap, subst}
-use Rattle.gt_disk.specs.Disk.{Only, LeavesOnly}
+use Rattle.std.proofs.Common.{arith, ◌≡◌, None, length, take, refl, sym, ◌∙◌, ap, subst}
+use Rattle.gt_disk.specs.Disk.{LeavesOnly}
 use Rattle.gt_journal.specs.JournalText.{texts, IsJournalText, IsFront}
 use Rattle.gt_journal.specs.Kept.{bodies_of}
 use Rattle.gt_journal.specs.Opening.{lists, IsClosedAt}

@@ -1,4 +1,4 @@
-use Rattle.std.proofs.Common.{rules, arith, ◌≡◌, ◌≢◌, ℕ, ◌+◌, ◌^◌, ◌<◌, List, [], ◌∷◌, ◌++◌, None, Some, true, false, IfSome, if◌then◌else◌, length, take, drop, slice_index, sym, ◌∙◌, ap, subst, length-append}
+use Rattle.std.proofs.Common.{arith, ◌≡◌, ◌≢◌, ℕ, ◌+◌, ◌^◌, ◌<◌, List, [], ◌∷◌, ◌++◌, None, Some, true, false, IfSome, if◌then◌else◌, length, take, drop, slice_index, sym, ◌∙◌, ap, subst, length-append}
 use Rattle.std.proofs.lemmas.Bool.{eqb-true, eqb-false}
 use Rattle.gt_disk.specs.Disk.{LeavesOnly, NoMore}
 use Rattle.gt_journal.specs.declared.settled.Settled.TheVariants.{Kept, Dropped}
@@ -177,7 +177,7 @@ returns-then-branch-clause-ok g c honest =
     let place_is : place + (size + 9) ≡ length (front ++ text body) = omega (arith, standing.is, size_is, length-append front (text body), length-frame body) in
     let byte : slice_index (d.seen inside.disk) (length front) ≡ 1 = ap (λ n. slice_index (d.seen inside.disk) n) (sym standing.is) ∙ eqb-true _ _ (sym (c.in_ok-settle_at.ensures.exact honest_0) ∙ is_kept) in
     let bodies_are = ap bodies_of (closed_front (front ++ text body) (place + (size + 9)) place_is (d.seen new) (images (d.seen new) here))
-        ∙ front_reads (bodies_of front ++ body ∷ []) (front ++ text body) more in
+    ∙ front_reads (bodies_of front ++ body ∷ []) (front ++ text body) more in
     let result = bodies_of (take (place + (size + 9)) (d.seen new)) in
     subst (λ v. Settles (d.seen v.disk) v.front v.bodies v.doubt Kept result) c.self.view_is
     (subst (λ p. Settles (d.seen inside.disk) front (bodies_of front) (doubt_of p place (d.seen inside.disk)) Kept result) (sym c.in-Some.is) (byte, bodies_are))
