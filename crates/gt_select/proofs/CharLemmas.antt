@@ -1,6 +1,6 @@
 -- Texts as lists of characters: where the first `]` stands.
-use Rattle.std.proofs.Common.{◌≡◌, ◌≤◌, ◌<◌, ◌+◌, ℕ, List, [], ◌∷◌, ◌++◌, length, take, drop, suc, Bool, true, false, refl, sym, ◌∙◌, ap, subst, arith, lit<, Option, Some, None, MatchOption, length-append}
-use Rattle.std.specs.Prelude.{◌==◌, position, IsUtf8, chars, nat_lt, cond, not, slice_index, encode_utf8, encode_utf8_all}
+use Rattle.std.proofs.Common.{◌≡◌, ◌<◌, ◌+◌, ℕ, List, [], ◌∷◌, ◌++◌, length, take, drop, suc, Bool, true, false, refl, sym, ◌∙◌, ap, subst, arith, lit<, Option, Some, None, MatchOption, length-append}
+use Rattle.std.specs.Prelude.{◌==◌, position, IsUtf8, chars, cond, not, slice_index, encode_utf8_all}
 use Rattle.gt_select.specs.Pattern.{is_match}
 use Rattle.std.specs.Borrow.{Bor}
 use Rattle.std.specs.List.{position_or_len, prefix_len}

@@ -1,7 +1,7 @@
 -- Whether a character is in ranges, from the first of them on.
-use Rattle.std.proofs.Common.{length, drop, suc, ◌+◌, Option, Some, cond, not, refl, arith, ◌≡◌, ◌∙◌, ℕ, List, [], ◌∷◌, ◌&&◌, ◌||◌, Bool, true, false, ap, sym}
+use Rattle.std.proofs.Common.{length, drop, ◌+◌, Option, Some, cond, not, arith, ◌≡◌, ◌∙◌, ℕ, List, ◌∷◌, ◌&&◌, ◌||◌, Bool, true, false, ap, sym}
 use Rattle.std.specs.Prelude.{nat_le}
-use Rattle.gt_select.specs.Pattern.{Single, class_or_bracket, fits, is_in, ranges}
+use Rattle.gt_select.specs.Pattern.{class_or_bracket, fits, is_in, ranges}
 use Rattle.std.proofs.lemmas.Bool.{true≢false}
 use Rattle.std.proofs.lemmas.List.{drop-drop}
 use mathlib.Core.Bool.{beq}

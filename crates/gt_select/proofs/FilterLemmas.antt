@@ -1,5 +1,5 @@
 -- The rule that decides, by its place.
-use Rattle.std.proofs.Common.{◌≡◌, ◌∙◌, List, length, Bool, true, false, cond, Option, Some, None, refl}
+use Rattle.std.proofs.Common.{◌≡◌, ◌∙◌, List, length, Bool, true, false, cond, Some, None, refl}
 use Rattle.std.proofs.lemmas.Bool.{ltb-false}
 use Rattle.std.proofs.lemmas.List.Folds.{find_at}
 use Rattle.std.proofs.lemmas.Option.{slice_get_past}

@@ -1,9 +1,8 @@
 -- Going over pieces of one character each, up to a star or the end.
-use Rattle.std.proofs.Common.{◌≡◌, ◌∙◌, ℕ, zero, suc, List, [], ◌∷◌, ◌++◌, map, drop, length, cond, Bool, true, false, ◌&&◌, ◌||◌, refl, sym, ap, inl, inr}
-use Rattle.std.specs.List.{list_any}
-use Rattle.std.specs.Prelude.{◌==◌, ◌≢◌}
+use Rattle.std.proofs.Common.{◌≡◌, ◌∙◌, ℕ, zero, suc, List, [], ◌∷◌, ◌++◌, map, drop, cond, Bool, true, false, ◌&&◌, ◌||◌, refl, sym, ap, inl, inr}
+use Rattle.std.specs.Prelude.{◌≢◌}
 use Rattle.std.proofs.lemmas.Bool.{eq-eqb, ne_eqb, or_cases, and_parts, true≢false}
-use Rattle.gt_select.specs.Pattern.{Piece, Single, ends, fits, is_match, pieces_after, single_at}
+use Rattle.gt_select.specs.Pattern.{Piece, Single, fits, is_match, pieces_after, single_at}
 use Rattle.gt_select.specs.Pattern.Piece.{Star, One}
 use Rattle.gt_select.specs.Reached.{is_match_of_end}
 

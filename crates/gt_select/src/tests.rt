@@ -1,3 +1,5 @@
+ghost use Rattle.std.specs.Prelude.{◌≤◌};
+
 use crate::{first_rule, needs_copy, pattern_matches};
 use gt_paths::Name;
 use gt_types::{FilterRule, Kind, Stat};
@@ -105,39 +107,36 @@ fn file(size: u64, seconds: u64) -> Option<Stat> {
     })
 }
 
+/// Whether a file of 3 bytes, written at moment 10, is copied at this level over the one that is told.
+fn is_copied(level: u8, size: u64, seconds: u64, content: u8) -> Option<bool>
+    requires { level ≤ 3 }
+{
+    let source = file(3, 10)?;
+    let there = file(size, seconds)?;
+    let digests = (
+        Digest::from_bytes([1; 32]),
+        Digest::from_bytes([content; 32]),
+    );
+    Some(needs_copy(Some(level), &source, Some(&there), Some(digests)))
+}
+
 #[test]
 fn levels_say_which_files_are_copied(rt: HostRuntime) -> Result<(), Fail> {
-    let source = file(3, 10).ok_or("no moment")?;
-    let same = Digest::from_bytes([1; 32]);
-    let other = Digest::from_bytes([2; 32]);
-    for (size, seconds, digest, by_level) in [
-        (3, 10, same, [false, false, false, false]),
-        (4, 10, other, [false, true, false, true]),
-        (3, 9, same, [false, false, true, false]),
-        (3, 11, other, [false, false, false, true]),
+    for (size, seconds, content, by_level) in [
+        (3, 10, 1, [false, false, false, false]),
+        (4, 10, 2, [false, true, false, true]),
+        (3, 9, 1, [false, false, true, false]),
+        (3, 11, 2, [false, false, false, true]),
     ] {
-        let there = file(size, seconds).ok_or("no moment")?;
-        let digests = Some((same, digest));
-        assert_eq!(rt;
-            needs_copy(Some(0), &source, Some(&there), digests),
-            by_level[0]
-        );
-        assert_eq!(rt;
-            needs_copy(Some(1), &source, Some(&there), digests),
-            by_level[1]
-        );
-        assert_eq!(rt;
-            needs_copy(Some(2), &source, Some(&there), digests),
-            by_level[2]
-        );
-        assert_eq!(rt;
-            needs_copy(Some(3), &source, Some(&there), digests),
-            by_level[3]
-        );
-        assert!(rt; needs_copy(None, &source, Some(&there), None));
+        assert_eq!(rt; is_copied(0, size, seconds, content), Some(by_level[0]));
+        assert_eq!(rt; is_copied(1, size, seconds, content), Some(by_level[1]));
+        assert_eq!(rt; is_copied(2, size, seconds, content), Some(by_level[2]));
+        assert_eq!(rt; is_copied(3, size, seconds, content), Some(by_level[3]));
     }
+    let source = file(3, 10).ok_or("no moment")?;
     for level in 0u8..4 {
         assert!(rt; needs_copy(Some(level), &source, None, None));
     }
+    assert!(rt; needs_copy(None, &source, Some(&source), None));
     Ok(())
 }

@@ -1,4 +1,4 @@
-use Rattle.std.proofs.Common.{◌≡◌, ◌∙◌, ◌∷◌, ap, sym, rules}
+use Rattle.std.proofs.Common.{◌∙◌, ◌∷◌, ap, sym, rules}
 use Rattle.std.specs.Prelude.{chars}
 use Rattle.gt_select.proofs.ClassLemmas.{is_in-first, is_in-later}
 use Rattle.gt_select.specs.Pattern.{is_in, ranges}

@@ -1,4 +1,4 @@
-use Rattle.std.proofs.Common.{◌≡◌, ◌∙◌, ap, subst, sym, ◌∷◌, Some, List, ℕ, not, true, cond, drop}
+use Rattle.std.proofs.Common.{◌≡◌, ◌∙◌, ap, subst, sym, ◌∷◌, Some, not, true, cond, drop}
 use Rattle.std.specs.Prelude.{chars}
 use Rattle.gt_select.proofs.ClassLemmas.{behind-class, fits-class}
 use Rattle.gt_select.specs.Pattern.{is_negated, members_of}

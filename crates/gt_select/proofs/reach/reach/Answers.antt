@@ -1,4 +1,4 @@
-use Rattle.std.proofs.Common.{◌≡◌, ◌∙◌, [], ◌∷◌, ap, subst, sym, rules, chars}
+use Rattle.std.proofs.Common.{◌∙◌, ◌∷◌, ap, subst, sym, rules, chars}
 use Rattle.gt_select.proofs.CharLemmas.{is_match-nil}
 use Rattle.gt_select.proofs.PassedLemmas.{Passed, fewer-passed, is_match-passed, is_match-passed_other, is_match-passed_short, is_match-passed_star, is_match_of_end-passed, passed_more, passed_none, shorter-passed}
 use Rattle.gt_select.specs.Pattern.{is_match, pieces_after}
