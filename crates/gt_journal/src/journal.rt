@@ -123,6 +123,13 @@ impl<D: Disk> Journal<D> {
         self.pending.is_some()
     }
 
+    /// The disk's count of faults.
+    pub fn faults(&self) -> u64
+        ensures { result ≡ D.faults_of self.now.disk }
+    {
+        self.disk.faults()
+    }
+
     /// The disk, as it is.
     pub fn close(self) -> D
         ensures { result ≡ self.disk }

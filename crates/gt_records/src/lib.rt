@@ -21,4 +21,4 @@ mod value;
 pub use decoding::decode;
 pub use encoding::{encode, encode_into};
 pub use fault::DecodeFault;
-pub use unique::record_text_unique;
+pub use unique::{record_text_reads_back, record_text_unique};
