@@ -17,6 +17,8 @@ mod plan;
 mod state;
 mod take;
 mod task;
+#[cfg(test)]
+mod tests;
 
 pub use change::{Change, PlanFault, Prepared};
 pub use decision::Decision;
