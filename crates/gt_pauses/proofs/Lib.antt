@@ -1,0 +1,4 @@
+pub mod ChainLemmas
+pub mod NumberLemmas
+pub mod RowWalks
+pub mod WalkLemmas

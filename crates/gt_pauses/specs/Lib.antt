@@ -1,0 +1,4 @@
+pub mod Chain
+pub mod Indexed
+pub mod Paused
+pub mod Rule

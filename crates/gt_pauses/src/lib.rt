@@ -1,0 +1,14 @@
+//! Pause rules with lives, and the rule that pauses an act at an event.
+//!
+//! A rule's row is kept when it ends, so that what was paused is known for each event that has passed.
+#![tactic(auto)]
+
+mod chains;
+mod look_up;
+mod pauses;
+mod row;
+#[cfg(test)]
+mod tests;
+
+pub use pauses::Pauses;
+pub use row::{PauseAct, PauseRow};
