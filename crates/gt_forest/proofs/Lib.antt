@@ -1,0 +1,6 @@
+pub mod MapLemmas
+pub mod TreeLemmas
+pub mod ListingLemmas
+pub mod CallLemmas
+pub mod ForestLemmas
+pub mod WholeLemmas
