@@ -1,0 +1,11 @@
+pub mod ApartLemmas
+pub mod BodyLemmas
+pub mod CountLemmas
+pub mod KeptLemmas
+pub mod LimitLemmas
+pub mod ResourceLemmas
+pub mod RowLemmas
+pub mod SeekLemmas
+pub mod SetupLemmas
+pub mod Shapes
+pub mod ToldLemmas

@@ -1,0 +1,12 @@
+pub mod Access
+pub mod Actions
+pub mod Entries
+pub mod Members
+pub mod Outcome
+pub mod Place
+pub mod Query
+pub mod Reading
+pub mod Request
+pub mod Router
+pub mod Routes
+pub mod Transfer

@@ -1,0 +1,25 @@
+-- Readings: a value, or the first fault.
+use Rattle.std.specs.Prelude.{Bool, Err, None, Ok, Option, Result, Some, if◌then◌else◌, ⊤, ◌≡◌}
+use Rattle.gt_requests.specs.declared.fault.DocumentFault.{DocumentFault}
+use Rattle.gt_requests.specs.declared.fault.DocumentFault.TheVariants.{Bad, OutOfMemory}
+use Rattle.gt_requests.specs.declared.place.Place.{Place}
+
+-- a reading that goes on where the one before it gave a value
+infixl 10 ◌>>=◌
+abbrev pub ◌>>=◌ : {A B E : Type 0} → Result A E → (A → Result B E) → Result B E
+Ok a >>= next = next a
+Err e >>= next = Err e
+
+-- goes on where the test holds
+abbrev pub unless_not : {E : Type 0} → Bool → E → Result Unit E
+unless_not holds e = if holds then Ok tt else Err e
+
+-- what the code gives is the reading, as it is seen, or want of memory
+abbrev pub ReadsWith : {A B : Type 0} → (A → B) → Result B Place → Result A DocumentFault → Type 0
+ReadsWith seen said (Ok a) = said ≡ Ok (seen a)
+ReadsWith seen said (Err (Bad place)) = said ≡ Err place
+ReadsWith seen said (Err OutOfMemory) = ⊤
+
+-- the same of a value that is seen as it is
+abbrev pub ReadsAs : {A : Type 0} → Result A Place → Result A DocumentFault → Type 0
+ReadsAs said result = ReadsWith (λ a. a) said result
