@@ -1,0 +1,4 @@
+pub mod DocumentLemmas
+pub mod OrderLemmas
+pub mod SpelledLemmas
+pub mod TableLemmas

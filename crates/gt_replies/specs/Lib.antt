@@ -1,0 +1,7 @@
+pub mod Codes
+pub mod Documents
+pub mod Members
+pub mod Order
+pub mod ReplyText
+pub mod Spelled
+pub mod TaskDocument
