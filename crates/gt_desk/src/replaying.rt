@@ -1,0 +1,62 @@
+// What an opening makes of the bodies that the journal hands out.
+ghost use Rattle.gt_desk.specs.Damage.{IsBadBody, IsTextOf};
+ghost use Rattle.gt_desk.specs.Opening.{IsBadAs, Replays};
+ghost use Rattle.gt_journal.specs.Opening.{lists};
+ghost use Rattle.gt_machine.specs.Run.{IsReached};
+ghost use Rattle.gt_machine.specs.Step.{step_of};
+ghost use Rattle.gt_types.specs.declared.event.Event.{Event};
+ghost use Rattle.std.specs.Prelude.{IfErr, IfOk, IsErr, IsErrOf, OnOk, Some, ◌+◌, ◌<◌, ◌^◌, ◌≡◌, ◌≤◌};
+
+use crate::OpenFault;
+use gt_machine::{PlanFault, State};
+use gt_records::{DecodeFault, decode};
+use gt_setup::Setup;
+use std::alloc::Global;
+
+// Why a body isn't replayed.
+enum Bad {
+    Body,
+    OutOfMemory,
+}
+
+// One body more.
+fn replay_one(alloc: Global, setup: &Setup, state: &mut State, body: &[u8]) -> Result<(), Bad>
+    requires reached { IsReached setup.now state.old.machine }
+    requires countable { state.old.machine.events < 2 ^ 63 }
+    ensures ok { OnOk result ((event : Event) × IsTextOf event body.now × (step_of setup.now state.old.machine event ≡ Some state.new.machine)) }
+    ensures reached { IsReached setup.now state.new.machine }
+    ensures counted { state.new.machine.events ≤ state.old.machine.events + 1 }
+    ensures bad { IsErrOf result Bad.Body → IsBadBody setup.now state.old.machine body.now }
+{
+    let event = match decode(alloc, body) {
+        Ok(event) => event,
+        Err(DecodeFault::NotRecord) => return Err(Bad::Body),
+        Err(DecodeFault::OutOfMemory) => return Err(Bad::OutOfMemory),
+    };
+    match state.take_event(alloc, setup, event) {
+        Ok(()) => Ok(()),
+        Err(PlanFault::NoStep) => Err(Bad::Body),
+        Err(PlanFault::OutOfMemory) => Err(Bad::OutOfMemory),
+    }
+}
+
+/// The state to which the events of these bodies lead. A refusal names the first body that isn't replayed.
+pub fn replay(alloc: Global, setup: &Setup, bodies: &[Vec<u8>]) -> Result<State, OpenFault>
+    ensures ok { IfOk result (λ state. Replays setup.now (lists bodies.now) state.machine) }
+    ensures reached { IfOk result (λ state. IsReached setup.now state.machine) }
+    ensures bad { IfErr result (IsBadAs setup.now (lists bodies.now)) }
+{
+    let mut state = State::new(alloc, setup.namespace());
+    for at in 0..bodies.len() {
+        match replay_one(alloc, setup, &mut state, &bodies[at]) {
+            Ok(()) => {}
+            Err(Bad::Body) => {
+                return Err(OpenFault::Damaged {
+                    at_record: at as u64,
+                });
+            }
+            Err(Bad::OutOfMemory) => return Err(OpenFault::OutOfMemory),
+        }
+    }
+    Ok(state)
+}
