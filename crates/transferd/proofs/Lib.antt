@@ -1,6 +1,14 @@
+pub mod ListLemmas
+pub mod CommandLemmas
 pub mod LineTextLemmas
 pub mod FrontLemmas
 pub mod ReadingLemmas
 pub mod ExitLemmas
 pub mod RunLemmas
 pub mod EndingLemmas
+pub mod HistoryLemmas
+pub mod LineLemmas
+pub mod DocumentLemmas
+pub mod SetupLemmas
+pub mod OpeningLemmas
+pub mod RequestLemmas

@@ -1,29 +1,57 @@
--- What the text of a line tells, one equation for each line.
+-- What the text of a line tells: no two lines have texts at the front of the same bytes.
+use Rattle.gt_machine.specs.MachineState.{MachineState}
+use Rattle.gt_setup.specs.Setup.{Setup}
 use Rattle.gt_streams.specs.Reading.{HasNoNewline}
-use Rattle.std.proofs.Common.{List, [], ap, arith, codes, drop, length, refl, sym, ◌++◌, ◌∙◌, ◌∷◌, ◌≡◌, ◌≤◌, ℕ}
+use Rattle.std.proofs.Common.{List, Some, [], ap, append_assoc, arith, codes, drop, length, refl, rules, subst, sym, ◌++◌, ◌∙◌, ◌∷◌, ◌≡◌, ◌≢◌, ◌≤◌, ℕ}
 use Rattle.std.proofs.Math.Seq.{drop-append_seam}
-use Rattle.transferd.specs.Script.{IsTextOf}
+use Rattle.transferd.proofs.CommandLemmas.{command_plain, one_command}
+use Rattle.transferd.proofs.ListLemmas.{append_cancel, same_front, same_length_front}
+use Rattle.transferd.specs.CommandLine.{IsCommandText}
+use Rattle.transferd.specs.Script.{Follows, IsRequest, IsTextOf, command_of}
+use Rattle.transferd.specs.declared.command_line.CommandLine.{CommandLine}
+use Rattle.transferd.specs.declared.command_line.CommandLine.TheVariants.{End as EndCommand, Now as NowCommand, Send as SendCommand}
 use Rattle.transferd.specs.declared.line.Line.{Line}
-use Rattle.transferd.specs.declared.line.Line.TheVariants.{End}
+use Rattle.transferd.specs.declared.line.Line.TheVariants.{End, Now, Send}
 
--- a text that is a command and its newline
-pub record Command (text : List ℕ) : Type 0 where
-  pub command : List ℕ
-  pub whole : text ≡ command ++ 10 ∷ []
-  pub plain : HasNoNewline command
-  pub short : length command ≤ 8192
+-- what two lines have in common whose rests stand at the front of the same bytes
+pub record SameRest (a b : Line) (s t x y : List ℕ) : Type 0 where
+  pub line : a ≡ b
+  pub rest : s ≡ t
+  pub behind : x ≡ y
 
-pub command_of : (line : Line) (text : List ℕ) → IsTextOf line text → Command text
-command_of End text is = record {
-  command = codes "end";
-  whole = is;
-  plain = (λ e. absurd (omega arith), (λ e. absurd (omega arith), (λ e. absurd (omega arith), tt)));
-  short = omega arith;
-}
+one_request : (setup : Setup) (who identity other : List ℕ) (route : _) (size : ℕ) (c d : _) (s t x y : List ℕ) → who ≡ identity → who ≡ other → IsRequest setup route size c s → IsRequest setup route size d t → s ++ x ≡ t ++ y
+    → SameRest (Send identity c) (Send other d) s t x y
+one_request setup who identity other route size c d s t x y i j p q e =
+    let front : p.body ++ (10 ∷ x) ≡ q.body ++ (10 ∷ y) =
+    sym (append_assoc p.body (10 ∷ []) x) ∙ ap (λ z. z ++ x) (sym p.whole) ∙ e ∙ ap (λ z. z ++ y) q.whole ∙ append_assoc q.body (10 ∷ []) y in
+    let body : p.body ≡ q.body = same_length_front p.body q.body (10 ∷ x) (10 ∷ y) (p.sized ∙ sym q.sized) front in
+    let same : s ≡ t = p.whole ∙ ap (λ z. z ++ 10 ∷ []) body ∙ sym q.whole in
+    let asked : Some c ≡ Some d = sym p.asks ∙ ap (λ z. command_of setup route z) body ∙ q.asks in
+    let command : c ≡ d = cc in
+    let caller : identity ≡ other = sym i ∙ j in
+    record {
+      line = ap (λ z. Send z c) caller ∙ ap (λ z. Send other z) command;
+      rest = same;
+      behind = append_cancel s x y (e ∙ ap (λ z. z ++ y) (sym same));
+    }
 
--- the same front leaves the same rest
-pub append_cancel : (front x y : List ℕ) → front ++ x ≡ front ++ y → x ≡ y
-append_cancel front x y e = sym (drop-append_seam front x) ∙ ap (drop (length front)) e ∙ drop-append_seam front y
+-- behind one command line one line goes on
+pub one_rest : (setup : Setup) (command_line : CommandLine) (a b : Line) (s t x y : List ℕ) → Follows setup command_line a s → Follows setup command_line b t → s ++ x ≡ t ++ y → SameRest a b s t x y
+one_rest setup EndCommand End End s t x y p q e = record { line = refl; rest = p ∙ sym q; behind = ap (λ z. z ++ x) (sym p) ∙ e ∙ ap (λ z. z ++ y) q }
+one_rest setup (NowCommand m) (Now a) (Now b) s t x y p q e = record { line = ap (λ (z : ℕ). Now z) (sym p.0 ∙ q.0); rest = p.1 ∙ sym q.1; behind = ap (λ z. z ++ x) (sym p.1) ∙ e ∙ ap (λ z. z ++ y) q.1 }
+one_rest setup (SendCommand who route size) (Send i c) (Send j d) s t x y p q e = one_request setup who i j route size c d s t x y p.0 q.0 p.1 q.1 e
+one_rest setup EndCommand (Now m) b s t x y p q e = absurd p
+one_rest setup EndCommand (Send i c) b s t x y p q e = absurd p
+one_rest setup EndCommand End (Now m) s t x y p q e = absurd q
+one_rest setup EndCommand End (Send i c) s t x y p q e = absurd q
+one_rest setup (NowCommand m) End b s t x y p q e = absurd p
+one_rest setup (NowCommand m) (Send i c) b s t x y p q e = absurd p
+one_rest setup (NowCommand m) (Now a) End s t x y p q e = absurd q
+one_rest setup (NowCommand m) (Now a) (Send i c) s t x y p q e = absurd q
+one_rest setup (SendCommand who route size) End b s t x y p q e = absurd p
+one_rest setup (SendCommand who route size) (Now m) b s t x y p q e = absurd p
+one_rest setup (SendCommand who route size) (Send i c) End s t x y p q e = absurd q
+one_rest setup (SendCommand who route size) (Send i c) (Now m) s t x y p q e = absurd q
 
 -- what two lines have in common whose texts stand at the front of the same bytes
 pub record SameLine (a b : Line) (s t x y : List ℕ) : Type 0 where
@@ -31,7 +59,16 @@ pub record SameLine (a b : Line) (s t x y : List ℕ) : Type 0 where
   pub text : s ≡ t
   pub rest : x ≡ y
 
-pub one_text : (a b : Line) (s t x y : List ℕ) → IsTextOf a s → IsTextOf b t → s ++ x ≡ t ++ y → SameLine a b s t x y
-one_text End End s t x y is_s is_t e =
-    let same : s ≡ t = is_s ∙ sym is_t in
-    record { line = refl; text = same; rest = append_cancel s x y (e ∙ ap (λ z. z ++ y) (sym same)) }
+pub one_text : (setup : Setup) (a b : Line) (s t x y : List ℕ) → IsTextOf setup a s → IsTextOf setup b t → s ++ x ≡ t ++ y → SameLine a b s t x y
+one_text setup a b s t x y is_s is_t e =
+    let whole : is_s.command ++ 10 ∷ (is_s.rest ++ x) ≡ is_t.command ++ 10 ∷ (is_t.rest ++ y) =
+    sym (append_assoc is_s.command (10 ∷ is_s.rest) x) ∙ ap (λ z. z ++ x) (sym is_s.whole) ∙ e ∙ ap (λ z. z ++ y) is_t.whole ∙ append_assoc is_t.command (10 ∷ is_t.rest) y in
+    let front = same_front 10 is_s.command is_t.command (is_s.rest ++ x) (is_t.rest ++ y) (command_plain setup is_s.command_line is_s.command is_s.is_command) (command_plain setup is_t.command_line is_t.command is_t.is_command) whole in
+    let head : is_s.command_line ≡ is_t.command_line = one_command setup is_s.command_line is_t.command_line is_s.command is_s.is_command (subst (IsCommandText setup is_t.command_line) (sym front.word) is_t.is_command) in
+    let follows = subst (λ h. Follows setup h b is_t.rest) (sym head) is_t.follows in
+    let rest = one_rest setup is_s.command_line a b is_s.rest is_t.rest x y is_s.follows follows front.rest in
+    record {
+      line = rest.line;
+      text = is_s.whole ∙ ap (λ z. z ++ 10 ∷ is_s.rest) front.word ∙ ap (λ z. is_t.command ++ 10 ∷ z) rest.rest ∙ sym is_t.whole;
+      rest = rest.behind;
+    }

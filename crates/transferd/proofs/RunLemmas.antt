@@ -1,4 +1,5 @@
 -- A run with one line more.
+use Rattle.gt_setup.specs.Setup.{Setup}
 use Rattle.std.proofs.Common.{List, [], ap, append-nil, append_assoc, length, refl, suc, sym, ◌++◌, ◌∙◌, ◌∷◌, ◌≡◌, ◌≢◌, ℕ}
 use Rattle.transferd.specs.Output.{line_output, out_text}
 use Rattle.transferd.specs.Run.{IsUnended, Makes, Played, ScriptRun, lines_of, world_at}
@@ -6,9 +7,9 @@ use Rattle.transferd.specs.World.{World, WorldRun, world_after}
 use Rattle.transferd.specs.declared.line.Line.{Line}
 use Rattle.transferd.specs.declared.line.Line.TheVariants.{End}
 
-pub script_run_more : (start : World) (run : List Played) (played : Played) → ScriptRun start run → Makes played.line played.steps → WorldRun (world_at start run) played.steps → ScriptRun start (run ++ played ∷ [])
-script_run_more start [] played so_far makes steps = (makes, steps, tt)
-script_run_more start (first ∷ rest) played so_far makes steps = (so_far.0, so_far.1, script_run_more (world_after start first.steps) rest played so_far.2 makes steps)
+pub script_run_more : (setup : Setup) (start : World) (run : List Played) (played : Played) → ScriptRun setup start run → Makes played.line played.steps → WorldRun setup (world_at start run) played.steps → ScriptRun setup start (run ++ played ∷ [])
+script_run_more setup start [] played so_far makes steps = (makes, steps, tt)
+script_run_more setup start (first ∷ rest) played so_far makes steps = (so_far.0, so_far.1, script_run_more setup (world_after start first.steps) rest played so_far.2 makes steps)
 
 pub world_at_more : (start : World) (run : List Played) (played : Played) → world_at start (run ++ played ∷ []) ≡ world_after (world_at start run) played.steps
 world_at_more start [] played = refl
@@ -22,12 +23,12 @@ pub unended_more : (lines : List Line) (line : Line) → IsUnended lines → lin
 unended_more [] line so_far other = (other, tt)
 unended_more (first ∷ rest) line so_far other = (so_far.0, unended_more rest line so_far.1 other)
 
-pub out_text_more : (start : World) (run : List Played) (played : Played) → out_text start (run ++ played ∷ []) ≡ out_text start run ++ line_output (world_at start run) played.line played.steps
-out_text_more start [] played = append-nil (line_output start played.line played.steps)
-out_text_more start (first ∷ rest) played =
-    let front = line_output start first.line first.steps in
+pub out_text_more : (setup : Setup) (start : World) (run : List Played) (played : Played) → out_text setup start (run ++ played ∷ []) ≡ out_text setup start run ++ line_output setup (world_at start run) played.line played.steps
+out_text_more setup start [] played = append-nil (line_output setup start played.line played.steps)
+out_text_more setup start (first ∷ rest) played =
+    let front = line_output setup start first.line first.steps in
     let after = world_after start first.steps in
-    ap (λ (s : List ℕ). front ++ s) (out_text_more after rest played) ∙ sym (append_assoc front (out_text after rest) (line_output (world_at after rest) played.line played.steps))
+    ap (λ (s : List ℕ). front ++ s) (out_text_more setup after rest played) ∙ sym (append_assoc front (out_text setup after rest) (line_output setup (world_at after rest) played.line played.steps))
 
 pub length-lines_of : (run : List Played) → length run ≡ length (lines_of run)
 length-lines_of [] = refl

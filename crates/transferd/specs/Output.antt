@@ -1,29 +1,83 @@
 -- What a run prints.
+use Rattle.gt_machine.specs.Run.{run_of}
+use Rattle.gt_machine.specs.TaskLine.{task_lines}
+use Rattle.gt_machine.specs.declared.line.TaskLine.{TaskLine}
+use Rattle.gt_replies.specs.ReplyText.{reply_status, reply_text}
+use Rattle.gt_setup.specs.Setup.{Setup}
+use Rattle.gt_types.specs.declared.code.Status.{Status}
+use Rattle.gt_types.specs.declared.code.Status.TheVariants.{Active, Failed, Succeeded}
+use Rattle.gt_types.specs.declared.reply.Reply.{Reply}
 use Rattle.std.specs.Fmt.{decimal}
 use Rattle.std.specs.List.{flat_map}
-use Rattle.std.specs.Prelude.{List, [], codes, length, ◌++◌, ◌∷◌, ℕ}
+use Rattle.std.specs.Option.{option_map_or}
+use Rattle.std.specs.Prelude.{Bool, List, [], codes, if◌then◌else◌, length, take, ◌++◌, ◌<◌, ◌∷◌, ◌≡◌, ℕ}
 use Rattle.transferd.specs.Run.{Played}
-use Rattle.transferd.specs.World.{Task, Taken, World, tasks_of, world_after}
+use Rattle.transferd.specs.World.{Quiet, Replied, Taken, Told, World, world_after}
 use Rattle.transferd.specs.declared.line.Line.{Line}
-use Rattle.transferd.specs.declared.line.Line.TheVariants.{End}
+use Rattle.transferd.specs.declared.line.Line.TheVariants.{End, Now, Send}
 
--- a task's line
-abbrev pub task_text : Task → List ℕ
-task_text task = elim task [ ]
+-- some bytes at the front of a text were written behind those before, and not all
+pub record IsPart (text before after : List ℕ) : Type 0 where
+  pub number : ℕ
+  pub not_all : number < length text
+  pub written : after ≡ before ++ take number text
+
+-- the type of a task
+abbrev pub type_text : Bool → List ℕ
+type_text is_delete = if is_delete then codes "DELETE" else codes "TRANSFER"
+
+-- the status of a task
+abbrev pub status_text : Status → List ℕ
+status_text Active = codes "ACTIVE"
+status_text Succeeded = codes "SUCCEEDED"
+status_text Failed = codes "FAILED"
+
+-- numbers with a space before each, and a text behind them
+abbrev pub numbers_text : List ℕ → List ℕ → List ℕ
+numbers_text [] behind = behind
+numbers_text (number ∷ rest) behind = codes " " ++ (decimal number ++ numbers_text rest behind)
+
+-- the ten numbers that a task's line shows
+abbrev pub numbers_of : TaskLine → List ℕ
+numbers_of line =
+    line.total ∷ line.pending ∷ line.retrying ∷ line.succeeded ∷ line.expired ∷ line.canceled ∷ line.failed
+    ∷ line.skipped_errors ∷ line.files_transferred ∷ line.bytes_transferred ∷ []
+
+-- a task's line: `task NUMBER TYPE STATUS` and ten numbers
+abbrev pub task_text : TaskLine → List ℕ
+task_text line =
+    codes "task " ++ (decimal line.number ++ (codes " " ++ (type_text line.is_delete ++ (codes " " ++ (status_text line.status ++ numbers_text (numbers_of line) (10 ∷ []))))))
 
 -- the first line of an end: `end EVENTS TASKS`
 abbrev pub count_text : ℕ → ℕ → List ℕ
 count_text events tasks = codes "end " ++ (decimal events ++ (codes " " ++ (decimal tasks ++ 10 ∷ [])))
 
 -- the numbers of events and of tasks, and a line for each task
-abbrev pub end_text : World → List ℕ
-end_text world = count_text (length world.history) (length (tasks_of world.history)) ++ flat_map task_text (tasks_of world.history)
+abbrev pub table_text : ℕ → List TaskLine → List ℕ
+table_text events lines = count_text events (length lines) ++ flat_map task_text lines
+
+-- what an end prints: the table of the tasks that the history made
+abbrev pub end_text : Setup → World → List ℕ
+end_text setup world = option_map_or (λ machine. table_text (length world.history) (task_lines machine)) (run_of setup world.history) []
+
+-- what a reply prints: `reply STATUS LENGTH`, and its body on a line
+abbrev pub reply_line : Setup → Reply → List ℕ
+reply_line setup reply =
+    codes "reply " ++ (decimal (reply_status reply) ++ (codes " " ++ (decimal (length (reply_text setup reply)) ++ 10 ∷ [])))
+    ++ reply_text setup reply ++ 10 ∷ []
+
+-- what a step prints, by what it was told
+abbrev pub told_text : Setup → Told → List ℕ
+told_text setup (Replied reply) = reply_line setup reply
+told_text setup Quiet = []
 
 -- what a line prints, by its steps from the world before it
-abbrev pub line_output : World → Line → List Taken → List ℕ
-line_output start End steps = end_text start
+abbrev pub line_output : Setup → World → Line → List Taken → List ℕ
+line_output setup start End steps = end_text setup start
+line_output setup start (Now moment) steps = []
+line_output setup start (Send identity command) steps = flat_map (λ taken. told_text setup taken.told) steps
 
 -- what a run prints
-abbrev pub out_text : World → List Played → List ℕ
-out_text start [] = []
-out_text start (played ∷ rest) = line_output start played.line played.steps ++ out_text (world_after start played.steps) rest
+abbrev pub out_text : Setup → World → List Played → List ℕ
+out_text setup start [] = []
+out_text setup start (played ∷ rest) = line_output setup start played.line played.steps ++ out_text setup (world_after start played.steps) rest

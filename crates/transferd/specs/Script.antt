@@ -1,47 +1,71 @@
 -- The text of a script: the texts of its lines, one after another.
-use Rattle.std.specs.Prelude.{List, [], codes, length, ◌++◌, ◌+◌, ◌∷◌, ◌≡◌, ◌≤◌, ℕ}
+use Rattle.gt_setup.specs.Setup.{Setup}
+use Rattle.gt_types.specs.declared.command.Command.{Command}
+use Rattle.gt_types.specs.declared.command.Command.TheVariants.{IssueId}
+use Rattle.std.specs.Prelude.{List, Option, Some, [], length, ◌++◌, ◌+◌, ◌∷◌, ◌≡◌, ◌≤◌, ℕ}
+use Rattle.transferd.specs.CommandLine.{IsCommandText, most_command_bytes}
+use Rattle.transferd.specs.Submission.{submitted}
+use Rattle.transferd.specs.declared.command_line.CommandLine.{CommandLine}
+use Rattle.transferd.specs.declared.command_line.CommandLine.TheVariants.{End as EndCommand, Now as NowCommand, Send as SendCommand}
+use Rattle.transferd.specs.declared.command_line.Route.{Route}
+use Rattle.transferd.specs.declared.command_line.Route.TheVariants.{SubmissionId, Transfer}
 use Rattle.transferd.specs.declared.line.Line.{Line}
-use Rattle.transferd.specs.declared.line.Line.TheVariants.{End}
+use Rattle.transferd.specs.declared.line.Line.TheVariants.{End, Now, Send}
 
 -- the most bytes of a script
 abbrev pub most_script_bytes : ℕ
 most_script_bytes = 1048576
 
--- a text of a line, with its newline and with all that belongs to the line
-abbrev pub IsTextOf : Line → List ℕ → Type 0
-IsTextOf End text = text ≡ codes "end" ++ 10 ∷ []
+-- the command that a request of this route and body gives; the body of one for an identifier isn't read
+abbrev pub command_of : Setup → Route → List ℕ → Option Command
+command_of setup SubmissionId body = Some IssueId
+command_of setup Transfer body = submitted setup body
+
+-- behind the command line `send`, with its newline, its body and a newline make this request
+pub record IsRequest (setup : Setup) (route : Route) (size : ℕ) (command : Command) (rest : List ℕ) : Type 0 where
+  pub body : List ℕ
+  pub sized : length body ≡ size
+  pub asks : command_of setup route body ≡ Some command
+  pub whole : rest ≡ body ++ 10 ∷ []
+
+-- behind a command line, with its newline, this makes the line
+abbrev pub Follows : Setup → CommandLine → Line → List ℕ → Type 0
+Follows setup EndCommand End rest = rest ≡ []
+Follows setup (NowCommand seconds) (Now moment) rest = (seconds ≡ moment) × (rest ≡ [])
+Follows setup (SendCommand caller route size) (Send identity command) rest = (caller ≡ identity) × IsRequest setup route size command rest
+Follows setup EndCommand (Now moment) rest = ⊥
+Follows setup EndCommand (Send identity command) rest = ⊥
+Follows setup (NowCommand seconds) End rest = ⊥
+Follows setup (NowCommand seconds) (Send identity command) rest = ⊥
+Follows setup (SendCommand caller route size) End rest = ⊥
+Follows setup (SendCommand caller route size) (Now moment) rest = ⊥
+
+-- a text of a line: its command line, a newline, and what follows it
+pub record IsTextOf (setup : Setup) (line : Line) (text : List ℕ) : Type 0 where
+  pub command_line : CommandLine
+  pub command : List ℕ
+  pub rest : List ℕ
+  pub is_command : IsCommandText setup command_line command
+  pub short : length command ≤ most_command_bytes
+  pub follows : Follows setup command_line line rest
+  pub whole : text ≡ command ++ 10 ∷ rest
 
 -- the bytes are texts of these lines, one after another
-abbrev pub ScriptText : List Line → List ℕ → Type 0
-ScriptText [] bytes = bytes ≡ []
-ScriptText (line ∷ rest) bytes = (text : List ℕ) × (others : List ℕ) × IsTextOf line text × ScriptText rest others × (bytes ≡ text ++ others)
+abbrev pub ScriptText : Setup → List Line → List ℕ → Type 0
+ScriptText setup [] bytes = bytes ≡ []
+ScriptText setup (line ∷ rest) bytes = (text : List ℕ) × (others : List ℕ) × IsTextOf setup line text × ScriptText setup rest others × (bytes ≡ text ++ others)
 
 -- these lines stand at the front of the bytes, within a script's limit, and `after` is left behind them
-pub record Reads (lines : List Line) (bytes after : List ℕ) : Type 0 where
+pub record Reads (setup : Setup) (lines : List Line) (bytes after : List ℕ) : Type 0 where
   pub text : List ℕ
-  pub is_text : ScriptText lines text
+  pub is_text : ScriptText setup lines text
   pub whole : bytes ≡ text ++ after
   pub fits : length text ≤ most_script_bytes
 
 -- no further line stands behind these
-abbrev pub EndsBehind : List Line → List ℕ → Type 0
-EndsBehind lines bytes = (line : Line) (after : List ℕ) → Reads (lines ++ line ∷ []) bytes after → ⊥
+abbrev pub EndsBehind : Setup → List Line → List ℕ → Type 0
+EndsBehind setup lines bytes = (line : Line) (after : List ℕ) → Reads setup (lines ++ line ∷ []) bytes after → ⊥
 
--- Where so many bytes of the script were taken before, this line stands at the front of those left, within the limit.
--- Behind it `after` is left, and that number was taken.
-pub record BeginsWith (line : Line) (before : ℕ) (bytes after : List ℕ) (taken : ℕ) : Type 0 where
-  pub text : List ℕ
-  pub is_text : IsTextOf line text
-  pub whole : bytes ≡ text ++ after
-  pub count : before + length text ≡ taken
-  pub fits : taken ≤ most_script_bytes
-
--- no line stands there within the limit
-abbrev pub BeginsNoLine : ℕ → List ℕ → Type 0
-BeginsNoLine before bytes = (line : Line) (after : List ℕ) (taken : ℕ) → BeginsWith line before bytes after taken → ⊥
-
--- of the bytes left, some were taken, and they hold no whole line
-pub record BreaksOff (before : ℕ) (bytes after : List ℕ) : Type 0 where
-  pub gone : List ℕ
-  pub whole : bytes ≡ gone ++ after
-  pub unfinished : BeginsNoLine before gone
+-- a further line behind these ends with the bytes, if one stands there
+abbrev pub EndsWithNext : Setup → List Line → List ℕ → Type 0
+EndsWithNext setup lines bytes = (line : Line) (after : List ℕ) → Reads setup (lines ++ line ∷ []) bytes after → after ≡ []

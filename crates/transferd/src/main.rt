@@ -1,29 +1,42 @@
-//! The transfer desk as a program: `transferd script SETUP` runs a script from standard input and prints what it answers.
+//! The transfer desk as a program: `transferd script SETUP` runs a script from standard input under the setup in a file, and
+//! prints what it answers.
 //!
-//! `script_top` does all of it, over any source and any sink. Its contract has the main theorem (`specs/MainTheorem.antt`).
-//! What is here makes the real objects, calls it, and ends with its status.
+//! `script_top` does all of it, over any sources and any sink. Its contract has the main theorem (`specs/MainTheorem.antt`).
+//! What is here makes the real objects, calls it, says what went wrong, and ends with its status.
 #![tactic(auto)]
 
+mod command_line;
+mod document;
 mod exit;
 mod laws;
 mod line;
+mod opening;
+mod present;
 mod printing;
+mod reading;
+mod real;
+mod request;
 mod running;
 mod script;
-mod standard;
+mod submission;
+#[cfg(test)]
+mod submission_tests;
 #[cfg(test)]
 mod tests;
 mod top;
 mod words;
 
 use exit::Exit;
-use standard::{StandardInput, StandardOutput};
+use gt_streams::MemSource;
+use real::{ReaderSource, WriterSink};
 use std::alloc::{AllocError, Global};
 use std::env::{self, Env};
-use std::io::ErrorKind;
+use std::fs::{self, Files};
+use std::io::{Eprint, ErrorKind, Read, Write};
 use std::process::ExitCode;
 use std::rc::RcStr;
 use top::script_top;
+use words::are_script_words;
 
 // The words of the command, or none where they are no text, which is no form of a command.
 fn command_words(rt: &(impl Env + Alloc<A = Global>)) -> Result<Vec<RcStr>, AllocError> {
@@ -43,16 +56,65 @@ fn command_words(rt: &(impl Env + Alloc<A = Global>)) -> Result<Vec<RcStr>, Allo
     Ok(words)
 }
 
+// The top call over the real objects: the setup is the file that the words name. Where the words are in another form it is
+// never read.
+fn run<F: Files + AllocGlobal + Eprint, R: Read + Drop, W: Write + Drop>(
+    rt: &F,
+    words: &[RcStr],
+    input: R,
+    output: W,
+) -> Exit {
+    let alloc = rt.alloc();
+    let mut input = ReaderSource::new(input);
+    let mut output = WriterSink::new(output);
+    match words {
+        [_, setup] if are_script_words(words) => match fs::open(rt, setup.as_str()) {
+            Ok(file) => {
+                let mut setup = ReaderSource::new(file);
+                script_top(alloc, words, &mut setup, &mut input, &mut output)
+            }
+            Err(error) => {
+                let setup = setup.as_str();
+                let _ = eprintln!(rt; "transferd: the setup file {setup} can't be opened: {error}");
+                not_opened(error.kind())
+            }
+        },
+        _ => {
+            let mut setup = MemSource::new(Vec::new(alloc), 1, Vec::new(alloc));
+            script_top(alloc, words, &mut setup, &mut input, &mut output)
+        }
+    }
+}
+
+fn not_opened(kind: ErrorKind) -> Exit {
+    if kind == ErrorKind::OutOfMemory {
+        Exit::OutOfMemory
+    } else {
+        Exit::SourceFault
+    }
+}
+
+// Says what went wrong, and where, on one line.
+fn tell<R: Eprint>(rt: &R, exit: &Exit) {
+    let _ = match exit {
+        Exit::Done => Ok(()),
+        Exit::Usage => eprintln!(rt; "transferd: usage: transferd script SETUP"),
+        Exit::SetupRefused { fault } => eprintln!(rt; "transferd: the setup is refused: {fault}"),
+        Exit::ScriptRefused { line } => {
+            eprintln!(rt; "transferd: the script is refused at line {line}, counted by commands")
+        }
+        Exit::SourceFault => eprintln!(rt; "transferd: the setup or the script could not be read"),
+        Exit::SinkFault => eprintln!(rt; "transferd: the output could not be written"),
+        Exit::OutOfMemory => eprintln!(rt; "transferd: out of memory"),
+    };
+}
+
 fn main(rt: HostRuntime) -> ExitCode {
     let exit = match command_words(&rt) {
-        Ok(words) => script_top(
-            rt.alloc(),
-            &words,
-            &mut StandardInput::new(rt.stdin()),
-            &mut StandardOutput::new(rt.stdout()),
-        ),
+        Ok(words) => run(&rt, &words, rt.stdin(), rt.stdout()),
         Err(AllocError) => Exit::OutOfMemory,
     };
+    tell(&rt, &exit);
     let status = exit.status();
     if status != 0 {
         let _ = eprintln!(rt; "transferd: status {status}");

@@ -1,31 +1,101 @@
-ghost use Rattle.std.specs.Prelude.{IfErr, IsErr, IsTrue, OnOk, length, take, ◌++◌, ◌<◌, ◌≡◌, ◌≤◌, ◌⊎◌, ℕ};
 ghost use Rattle.gt_causes.specs.Causes.{Rose};
-ghost use Rattle.transferd.specs.Output.{count_text};
-ghost use Rattle.transferd.specs.declared.exit.Exit.TheVariants.{OutOfMemory, SinkFault};
+ghost use Rattle.gt_types.specs.Reply.{is_printable};
+ghost use Rattle.std.specs.Prelude.{IfErr, IfOk, IsErr, IsTrue, OnOk, [], length, string_bytes, ◌++◌, ◌∷◌, ◌≡◌, ◌≤◌};
+ghost use Rattle.transferd.specs.Output as spec;
+ghost use Rattle.transferd.specs.Output.{IsPart, table_text, task_text};
+ghost use Rattle.transferd.specs.declared.running.LineFault.TheVariants.{SinkFault};
 
-use crate::exit::Exit;
+use crate::running::LineFault;
+use gt_machine::TaskLine;
+use gt_replies::write_reply;
+use gt_setup::Setup;
 use gt_streams::{Sink, write_all};
-use std::alloc::Global;
+use gt_types::{Reply, Status};
+use std::alloc::{AllocError, Global};
 
-/// Writes the line `end EVENTS TASKS`.
-pub fn print_counts<K: Sink>(
-    alloc: Global,
-    out: &mut K,
-    events: u64,
-    tasks: u64,
-) -> Result<(), Exit>
-    ensures whole { OnOk result (IsTrue (K.is_told out.old) → K.taken out.new ≡ K.taken out.old ++ count_text events tasks) }
-    ensures part { IsErr result → IsTrue (K.is_told out.old) → (n : ℕ) × (n < length (count_text events tasks)) × (K.taken out.new ≡ K.taken out.old ++ take n (count_text events tasks)) }
-    ensures exits { IfErr result (λ e. (e ≡ SinkFault) ⊎ (e ≡ OutOfMemory)) }
-    ensures cause { IfErr result (λ e. e ≡ SinkFault → Rose (K.faults_of out.old) (K.faults_of out.new)) }
+/// Writes the text.
+pub fn print<K: Sink>(out: &mut K, text: &[u8]) -> Result<(), LineFault>
+    ensures whole { OnOk result (IsTrue (K.is_told out.old) → K.taken out.new ≡ K.taken out.old ++ text.now) }
+    ensures part { IsErr result → IsTrue (K.is_told out.old) → IsPart text.now (K.taken out.old) (K.taken out.new) }
+    ensures exit { IfErr result (λ fault. fault ≡ SinkFault) }
+    ensures cause { IsErr result → Rose (K.faults_of out.old) (K.faults_of out.new) }
     ensures later { K.faults_of out.old ≤ K.faults_of out.new }
     ensures told { K.is_told out.new ≡ K.is_told out.old }
 {
-    match format!(in alloc; "end {events} {tasks}\n") {
-        Err(_) => Err(Exit::OutOfMemory),
-        Ok(text) => match write_all(out, text.as_bytes()) {
-            Ok(()) => Ok(()),
-            Err(_) => Err(Exit::SinkFault),
-        },
+    match write_all(out, text) {
+        Ok(()) => Ok(()),
+        Err(_) => Err(LineFault::SinkFault),
+    }
+}
+
+/// The text of a reply: the line `reply STATUS LENGTH`, and the body on a line.
+pub fn reply_line(alloc: Global, setup: &Setup, reply: &Reply) -> Result<Vec<u8>, AllocError>
+    requires { IsTrue (is_printable (length setup.now.collections) reply.now) }
+    ensures { IfOk result (λ text. text.items ≡ spec.reply_line setup.now reply.now) }
+{
+    let (status, body) = write_reply(alloc, setup, reply)?;
+    let length = body.len();
+    let mut text = format!(in alloc; "reply {status} {length}\n")?.into_bytes();
+    text.extend_from_slice(&body)?;
+    text.push(b'\n')?;
+    Ok(text)
+}
+
+/// The table of tasks after so many events: the line `end EVENTS TASKS`, and a line for each task.
+pub fn table(alloc: Global, events: u64, lines: &[TaskLine]) -> Result<Vec<u8>, AllocError>
+    ensures { IfOk result (λ text. text.items ≡ table_text events lines.now) }
+{
+    let tasks = lines.len();
+    let mut text = format!(in alloc; "end {events} {tasks}\n")?.into_bytes();
+    for line in lines {
+        text.extend_from_slice(task_line(alloc, line)?.as_bytes())?;
+    }
+    Ok(text)
+}
+
+// The line of a task: its number, its type, its status, and ten numbers.
+fn task_line(alloc: Global, line: &TaskLine) -> Result<String, AllocError>
+    ensures { IfOk result (λ text. string_bytes text ≡ task_text line.now) }
+{
+    let number = line.number;
+    let kind = type_of(line.is_delete);
+    let status = status_of(line.status);
+    let numbers = numbers_of(alloc, line)?;
+    let numbers = numbers.as_str();
+    format!(in alloc; "task {number} {kind} {status}{numbers}")
+}
+
+// The ten numbers with a space before each, and a newline.
+fn numbers_of(alloc: Global, line: &TaskLine) -> Result<String, AllocError>
+    ensures { IfOk result (λ text. string_bytes text ≡ spec.numbers_text (spec.numbers_of line.now) (10 ∷ [])) }
+{
+    let copied = two_numbers(alloc, line.files_transferred, line.bytes_transferred, "\n")?;
+    let failed = two_numbers(alloc, line.failed, line.skipped_errors, copied.as_str())?;
+    let ended = two_numbers(alloc, line.expired, line.canceled, failed.as_str())?;
+    let done = two_numbers(alloc, line.retrying, line.succeeded, ended.as_str())?;
+    let all = two_numbers(alloc, line.total, line.pending, done.as_str())?;
+    Ok(all)
+}
+
+// Two numbers with a space before each, and a text behind them.
+fn two_numbers(alloc: Global, first: u64, second: u64, rest: &str) -> Result<String, AllocError>
+    ensures { IfOk result (λ text. string_bytes text ≡ spec.numbers_text (first ∷ (second ∷ [])) rest.now) }
+{
+    format!(in alloc; " {first} {second}{rest}")
+}
+
+fn type_of(is_delete: bool) -> &'static str
+    ensures { result.now ≡ spec.type_text is_delete }
+{
+    if is_delete { "DELETE" } else { "TRANSFER" }
+}
+
+fn status_of(status: Status) -> &'static str
+    ensures { result.now ≡ spec.status_text status }
+{
+    match status {
+        Status::Active => "ACTIVE",
+        Status::Succeeded => "SUCCEEDED",
+        Status::Failed => "FAILED",
     }
 }

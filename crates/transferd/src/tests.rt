@@ -1,11 +1,76 @@
+ghost use Rattle.std.specs.Prelude.{◌≤◌};
+
 use crate::exit::Exit;
 use crate::top::script_top;
+use gt_setup::SetupFault;
 use gt_streams::{MemSink, MemSource, Sink, Source, read_exactly};
-use std::alloc::Global;
+use gt_values::{Id, Text};
+use std::alloc::{AllocError, Global};
 use std::rc::RcStr;
 use std::test::Fail;
 
-// A run over memory, with the source in pieces of one byte and of many.
+/// Two identities, `ann` with the token `abc` and `bob` with `hello`, and three collections.
+pub const SETUP: &str = "namespace = 7
+[[identity]]
+id = \"00000000-0000-4000-8000-0000000000a1\"
+name = \"ann\"
+tokens = [\"ba7816bf8f01cfea414140de5dae2223b00361a396177a9cb410ff61f20015ad\"]
+groups = []
+[[identity]]
+id = \"00000000-0000-4000-8000-0000000000b2\"
+name = \"bob\"
+tokens = [\"2cf24dba5fb0a30e26e83b2ac5b9e29e1b161e5c1fa7425e73043362938b9824\"]
+groups = []
+[[collection]]
+id = \"00000000-0000-4000-8000-0000000000c0\"
+name = \"Lab\"
+owner = \"00000000-0000-4000-8000-0000000000a1\"
+home = \"/home/ann\"
+[[collection]]
+id = \"00000000-0000-4000-8000-0000000000c1\"
+name = \"Store\"
+owner = \"00000000-0000-4000-8000-0000000000a1\"
+home = \"/\"
+[[collection]]
+id = \"00000000-0000-4000-8000-0000000000c2\"
+name = \"Vault\"
+owner = \"00000000-0000-4000-8000-0000000000b2\"
+home = \"/\"
+";
+
+// The document of 280 bytes, and its submission by each identity.
+const DOCUMENT: &str =
+    "{\"DATA\":[{\"DATA_TYPE\":\"transfer_item\",\"destination_path\":\"/e\",\"source_path\":\"/e\"}],\"DATA_TYPE\":\"transfer\",\"destination_endpoint\":\"00000000-0000-4000-8000-0000000000c1\",\"source_endpoint\":\"00000000-0000-4000-8000-0000000000c0\",\"submission_id\":\"00000007-0001-8000-8000-000000000001\"}";
+
+const ANN: &str = "send abc POST /v0.10/transfer 280\n";
+
+const BOB: &str = "send hello POST /v0.10/transfer 280\n";
+
+const ACCEPTED: &str = "reply 202 188
+{\"DATA_TYPE\":\"transfer_result\",\"code\":\"Accepted\",\"message\":\"The task was accepted.\",\"submission_id\":\"00000007-0001-8000-8000-000000000001\",\"task_id\":\"00000007-0002-8000-8000-000000000001\"}
+";
+
+const ACCEPTED_SECOND: &str = "reply 202 188
+{\"DATA_TYPE\":\"transfer_result\",\"code\":\"Accepted\",\"message\":\"The task was accepted.\",\"submission_id\":\"00000007-0001-8000-8000-000000000001\",\"task_id\":\"00000007-0002-8000-8000-000000000002\"}
+";
+
+const DUPLICATE: &str = "reply 200 203
+{\"DATA_TYPE\":\"transfer_result\",\"code\":\"Duplicate\",\"message\":\"This submission was accepted before.\",\"submission_id\":\"00000007-0001-8000-8000-000000000001\",\"task_id\":\"00000007-0002-8000-8000-000000000001\"}
+";
+
+const ISSUED: &str = "reply 200 76
+{\"DATA_TYPE\":\"submission_id\",\"value\":\"00000007-0001-8000-8000-000000000001\"}
+";
+
+// One text after another.
+fn joined(alloc: Global, texts: &[&str]) -> Result<Vec<u8>, AllocError> {
+    let mut bytes = Vec::new(alloc);
+    for text in texts {
+        bytes.extend_from_slice(text.as_bytes())?;
+    }
+    Ok(bytes)
+}
+
 fn words(alloc: Global, texts: &[&str]) -> Result<Vec<RcStr>, Fail> {
     let mut words = Vec::new(alloc);
     for text in texts {
@@ -14,20 +79,227 @@ fn words(alloc: Global, texts: &[&str]) -> Result<Vec<RcStr>, Fail> {
     Ok(words)
 }
 
+fn source(alloc: Global, bytes: &[u8], piece: u32, fails: &[u64]) -> Result<MemSource, AllocError>
+    requires { 1 ≤ piece }
+{
+    Ok(MemSource::new(bytes.to_vec(alloc)?, piece, fails.to_vec(alloc)?))
+}
+
+// A run of a script under a setup, over memory.
+fn run(alloc: Global, setup: &[u8], script: &[u8]) -> Result<(Exit, MemSink), Fail> {
+    let words = words(alloc, &["script", "setup"])?;
+    let mut setup = source(alloc, setup, 1000, &[])?;
+    let mut script = source(alloc, script, 7, &[])?;
+    let mut out = MemSink::new(alloc, 5, Vec::new(alloc));
+    let exit = script_top(alloc, &words, &mut setup, &mut script, &mut out);
+    Ok((exit, out))
+}
+
 #[test]
-fn script_runs_with_ample_memory(rt: HostRuntime) -> Result<(), Fail> {
+fn submission_and_repeat(rt: HostRuntime) -> Result<(), Fail> {
     let alloc = rt.alloc();
     let words = words(alloc, &["script", "setup"])?;
-    let mut script = MemSource::new(b"end\nend\n".to_vec(alloc)?, 4096, Vec::new(alloc));
-    let mut out = MemSink::new(alloc, 1, Vec::new(alloc));
-    let exit = script_top(alloc, &words, &mut script, &mut out);
+    let lines = joined(alloc, &[ANN, DOCUMENT, "\n", ANN, DOCUMENT, "\nend\nend\n"])?;
+    let printed = joined(
+        alloc,
+        &[
+            ACCEPTED,
+            DUPLICATE,
+            "end 1 1\ntask 1 TRANSFER ACTIVE 1 1 0 0 0 0 0 0 0 0\n",
+        ],
+    )?;
+    let mut setup = source(alloc, SETUP.as_bytes(), 4096, &[])?;
+    let mut script = source(alloc, &lines, 4096, &[])?;
+    let mut out = MemSink::new(alloc, 4096, Vec::new(alloc));
+    let exit = script_top(alloc, &words, &mut setup, &mut script, &mut out);
     assert!(rt; exit == Exit::Done);
-    assert!(rt; out.bytes() == b"end 0 0\n".as_slice());
+    assert!(rt; out.bytes() == printed.as_slice());
     // Nothing behind the `end` line was read.
     let mut rest = Vec::new(alloc);
     read_exactly(&mut script, 4, &mut rest)?;
     assert!(rt; rest.as_slice() == b"end\n".as_slice());
     Ok(())
+}
+
+#[test]
+fn other_owner_makes_its_own_task(rt: HostRuntime) -> Result<(), Fail> {
+    let alloc = rt.alloc();
+    let script = joined(alloc, &[ANN, DOCUMENT, "\n", BOB, DOCUMENT, "\nend\n"])?;
+    let printed = joined(
+        alloc,
+        &[
+            ACCEPTED,
+            ACCEPTED_SECOND,
+            "end 2 2\ntask 1 TRANSFER ACTIVE 1 1 0 0 0 0 0 0 0 0\ntask 2 TRANSFER ACTIVE 1 1 0 0 0 0 0 0 0 0\n",
+        ],
+    )?;
+    let (exit, out) = run(alloc, SETUP.as_bytes(), &script)?;
+    assert!(rt; exit == Exit::Done);
+    assert!(rt; out.bytes() == printed.as_slice());
+    Ok(())
+}
+
+#[test]
+fn moments_identifiers_and_a_repeat(rt: HostRuntime) -> Result<(), Fail> {
+    let alloc = rt.alloc();
+    // The moment goes back before the submission. An identifier's body is not read.
+    let script = joined(
+        alloc,
+        &[
+            "now 253402300799\nsend abc GET /v0.10/submission_id 4\nnow \nnow 100\nnow 0\n",
+            ANN,
+            DOCUMENT,
+            "\n",
+            ANN,
+            DOCUMENT,
+            "\nend\n",
+        ],
+    )?;
+    let printed = joined(
+        alloc,
+        &[
+            ISSUED,
+            ACCEPTED,
+            DUPLICATE,
+            "end 2 1\ntask 1 TRANSFER ACTIVE 1 1 0 0 0 0 0 0 0 0\n",
+        ],
+    )?;
+    let (exit, out) = run(alloc, SETUP.as_bytes(), &script)?;
+    assert!(rt; exit == Exit::Done);
+    assert!(rt; out.bytes() == printed.as_slice());
+    Ok(())
+}
+
+// The script of the good document, and then of this one.
+fn second_submission(alloc: Global, document: &str) -> Result<Vec<u8>, Fail> {
+    let size = document.len();
+    let head = format!(in alloc; "send abc POST /v0.10/transfer {size}\n")?;
+    let mut script = joined(alloc, &[ANN, DOCUMENT, "\n"])?;
+    script.extend_from_slice(head.as_bytes())?;
+    script.extend_from_slice(document.as_bytes())?;
+    script.extend_from_slice(b"\nend\n")?;
+    Ok(script)
+}
+
+#[test]
+fn other_documents_are_refused_at_their_line(rt: HostRuntime) -> Result<(), Fail> {
+    let alloc = rt.alloc();
+    let table: [&str; 6] = [
+        "",
+        "{\"DATA\":[{\"DATA_TYPE\":\"transfer_item\",\"destination_path\":\"/f\",\"source_path\":\"/e\"}],\"DATA_TYPE\":\"transfer\",\"destination_endpoint\":\"00000000-0000-4000-8000-0000000000c1\",\"source_endpoint\":\"00000000-0000-4000-8000-0000000000c0\",\"submission_id\":\"00000007-0001-8000-8000-000000000001\",\"verify_checksum\":true}",
+        "{\"DATA\":[{\"DATA_TYPE\":\"transfer_item\",\"destination_path\":7,\"source_path\":\"/e\"}],\"DATA_TYPE\":\"transfer\",\"destination_endpoint\":\"00000000-0000-4000-8000-0000000000c1\",\"source_endpoint\":\"00000000-0000-4000-8000-0000000000c0\",\"submission_id\":\"00000007-0001-8000-8000-000000000001\"}",
+        "{\"DATA\":[{\"DATA_TYPE\":\"transfer_item\",\"destination_path\":\"f\",\"source_path\":\"/e\"}],\"DATA_TYPE\":\"transfer\",\"destination_endpoint\":\"00000000-0000-4000-8000-0000000000c1\",\"source_endpoint\":\"00000000-0000-4000-8000-0000000000c0\",\"submission_id\":\"00000007-0001-8000-8000-000000000001\"}",
+        "{\"DATA\":[{\"DATA_TYPE\":\"transfer_item\",\"destination_path\":\"/e/f\",\"source_path\":\"/e\"}],\"DATA_TYPE\":\"transfer\",\"destination_endpoint\":\"00000000-0000-4000-8000-0000000000c0\",\"source_endpoint\":\"00000000-0000-4000-8000-0000000000c0\",\"submission_id\":\"00000007-0001-8000-8000-000000000001\"}",
+        "{\"DATA\":[{\"DATA_TYPE\":\"transfer_item\",\"destination_path\":\"/f\",\"source_path\":\"/e\"}],\"DATA_TYPE\":\"transfer\",\"destination_endpoint\":\"00000000-0000-4000-8000-0000000000c9\",\"source_endpoint\":\"00000000-0000-4000-8000-0000000000c0\",\"submission_id\":\"00000007-0001-8000-8000-000000000001\"}",
+    ];
+    for document in table {
+        let script = second_submission(alloc, document)?;
+        let (exit, out) = run(alloc, SETUP.as_bytes(), &script)?;
+        assert!(rt; exit == Exit::ScriptRefused { line: 2 });
+        assert!(rt; exit.status() == 4);
+        assert!(rt; out.bytes() == ACCEPTED.as_bytes());
+    }
+    Ok(())
+}
+
+#[test]
+fn other_lines_are_refused(rt: HostRuntime) -> Result<(), Fail> {
+    let alloc = rt.alloc();
+    let table: [&str; 36] = [
+        "",
+        "e",
+        "end",
+        "\n",
+        "end \n",
+        " end\n",
+        "End\n",
+        "end\r\n",
+        "restart\n",
+        "now\n",
+        "now \n",
+        "now  5\n",
+        "now 5 \n",
+        "now 05\n",
+        "now -1\n",
+        "now +1\n",
+        "now 253402300800\n",
+        "now 18446744073709551616\n",
+        "send abc GET /v0.10/submission_id 0\n",
+        "send abc GET /v0.10/submission_id 0\nx",
+        "send abc GET /v0.10/submission_id 0\nend\n",
+        "send abc GET /v0.10/submission_id 1\n\nend\n",
+        "send abc GET /v0.10/submission_id 00\n\n",
+        "send abc GET /v0.10/submission_id  0\n\n",
+        "send  abc GET /v0.10/submission_id 0\n\n",
+        "send abc  GET /v0.10/submission_id 0\n\n",
+        "send abc GET /v0.10/submission_id 0 \n\n",
+        "send abc GET /v0.10/submission_id\n\n",
+        "send abc GET /v0.10/submission_id?limit=1 0\n\n",
+        "send abc get /v0.10/submission_id 0\n\n",
+        "send abc POST /v0.10/submission_id 0\n\n",
+        "send abc GET /v0.10/task_list 0\n\n",
+        "send abc GET /v0.10/submission_id 8388609\n\n",
+        "send - GET /v0.10/submission_id 0\n\n",
+        "send abd GET /v0.10/submission_id 0\n\n",
+        "send  GET /v0.10/submission_id 0\n\n",
+    ];
+    for text in table {
+        let (exit, out) = run(alloc, SETUP.as_bytes(), text.as_bytes())?;
+        assert!(rt; exit == Exit::ScriptRefused { line: 1 });
+        assert!(rt; out.bytes().is_empty());
+    }
+    Ok(())
+}
+
+#[test]
+fn setup_faults_refuse_before_the_script(rt: HostRuntime) -> Result<(), Fail> {
+    let alloc = rt.alloc();
+    let long = vec![in alloc; b'#'; 1_048_600]?;
+    let twice = joined(
+        alloc,
+        &[
+            SETUP,
+            "[[collection]]\nid = \"00000000-0000-4000-8000-0000000000c1\"\nname = \"Vault\"\nowner = \"00000000-0000-4000-8000-0000000000b2\"\nhome = \"/\"\n",
+        ],
+    )?;
+    let unknown = joined(
+        alloc,
+        &[
+            SETUP,
+            "[[collection]]\nid = \"00000000-0000-4000-8000-0000000000c3\"\nname = \"Vault\"\nowner = \"00000000-0000-4000-8000-0000000000d4\"\nhome = \"/\"\n",
+        ],
+    )?;
+    let table: [(&[u8], SetupFault); 6] = [
+        (
+            b"",
+            SetupFault::Missing {
+                key: Text::copy_of(alloc, "namespace")?,
+                row: 0,
+            },
+        ),
+        (
+            b"namespace = -1\n",
+            SetupFault::BadValue {
+                key: Text::copy_of(alloc, "namespace")?,
+                row: 0,
+            },
+        ),
+        (b"namespace", SetupFault::NotToml),
+        (&long, SetupFault::TooLong { bytes: 1_048_577 }),
+        (&twice, SetupFault::Twice { id: id(0xc1) }),
+        (&unknown, SetupFault::UnknownIdentity { id: id(0xd4) }),
+    ];
+    for (setup, fault) in table {
+        let (exit, out) = run(alloc, setup, b"end\n")?;
+        assert!(rt; exit.status() == 3);
+        assert!(rt; exit == Exit::SetupRefused { fault });
+        assert!(rt; out.bytes().is_empty());
+    }
+    Ok(())
+}
+
+fn id(last: u8) -> Id {
+    Id::from_bytes([0, 0, 0, 0, 0, 0, 0x40, 0, 0x80, 0, 0, 0, 0, 0, 0, last])
 }
 
 #[test]
@@ -49,40 +321,12 @@ fn words_in_another_form_are_usage(rt: HostRuntime) -> Result<(), Fail> {
     ];
     for (texts, status) in table {
         let words = words(alloc, texts)?;
-        let mut script = MemSource::new(b"end\n".to_vec(alloc)?, 1, Vec::new(alloc));
+        let mut setup = source(alloc, SETUP.as_bytes(), 4096, &[])?;
+        let mut script = source(alloc, b"end\n", 1, &[])?;
         let mut out = MemSink::new(alloc, 1, Vec::new(alloc));
-        let exit = script_top(alloc, &words, &mut script, &mut out);
+        let exit = script_top(alloc, &words, &mut setup, &mut script, &mut out);
         assert!(rt; exit.status() == status);
         assert!(rt; (out.bytes().len() == 8) == (status == 0));
-    }
-    Ok(())
-}
-
-#[test]
-fn other_lines_are_refused(rt: HostRuntime) -> Result<(), Fail> {
-    let alloc = rt.alloc();
-    let words = words(alloc, &["script", "setup"])?;
-    let scripts: [&[u8]; 12] = [
-        b"",
-        b"e",
-        b"en",
-        b"end",
-        b"\n",
-        b"end \n",
-        b" end\n",
-        b"End\n",
-        b"end\r\n",
-        b"now 5\n",
-        b"send abc POST /v0.10/transfer 0\n\nend\n",
-        b"restart\nend\n",
-    ];
-    for bytes in scripts {
-        let mut script = MemSource::new(bytes.to_vec(alloc)?, 3, Vec::new(alloc));
-        let mut out = MemSink::new(alloc, 3, Vec::new(alloc));
-        let exit = script_top(alloc, &words, &mut script, &mut out);
-        assert!(rt; exit == Exit::ScriptRefused { line: 1 });
-        assert!(rt; exit.status() == 4);
-        assert!(rt; out.bytes().is_empty());
     }
     Ok(())
 }
@@ -91,23 +335,40 @@ fn other_lines_are_refused(rt: HostRuntime) -> Result<(), Fail> {
 fn a_failing_source_or_sink_ends_the_run(rt: HostRuntime) -> Result<(), Fail> {
     let alloc = rt.alloc();
     let words = words(alloc, &["script", "setup"])?;
-    for call in 1..5u64 {
-        let mut script = MemSource::new(b"end\n".to_vec(alloc)?, 1, [call].to_vec(alloc)?);
+    let text = b"send abc GET /v0.10/submission_id 1\nx\nend\n";
+    // The setup comes in one piece, and then its end.
+    for call in 1..3u64 {
+        let mut setup = source(alloc, SETUP.as_bytes(), 4096, &[call])?;
+        let mut script = source(alloc, text, 4096, &[])?;
         let mut out = MemSink::new(alloc, 1, Vec::new(alloc));
-        let exit = script_top(alloc, &words, &mut script, &mut out);
+        let exit = script_top(alloc, &words, &mut setup, &mut script, &mut out);
         assert!(rt; exit == Exit::SourceFault);
         assert!(rt; exit.status() == 5);
         assert!(rt; out.bytes().is_empty());
+        assert_eq!(rt; setup.faults(), 1);
+    }
+    // A command line comes byte by byte, and a body at once.
+    for call in 1..42u64 {
+        let mut setup = source(alloc, SETUP.as_bytes(), 4096, &[])?;
+        let mut script = source(alloc, text, 4096, &[call])?;
+        let mut out = MemSink::new(alloc, 100, Vec::new(alloc));
+        let exit = script_top(alloc, &words, &mut setup, &mut script, &mut out);
+        assert!(rt; exit == Exit::SourceFault);
+        assert!(rt; out.bytes().is_empty() == (call < 38));
+        assert!(rt; ISSUED.as_bytes().starts_with(out.bytes()));
         assert_eq!(rt; script.faults(), 1);
     }
-    for call in 1..9u64 {
-        let mut script = MemSource::new(b"end\n".to_vec(alloc)?, 1, Vec::new(alloc));
+    // The reply and the table have 98 bytes.
+    let printed = joined(alloc, &[ISSUED, "end 1 0\n"])?;
+    for call in 1..99u64 {
+        let mut setup = source(alloc, SETUP.as_bytes(), 4096, &[])?;
+        let mut script = source(alloc, text, 4096, &[])?;
         let mut out = MemSink::new(alloc, 1, [call].to_vec(alloc)?);
-        let exit = script_top(alloc, &words, &mut script, &mut out);
+        let exit = script_top(alloc, &words, &mut setup, &mut script, &mut out);
         assert!(rt; exit == Exit::SinkFault);
         assert!(rt; exit.status() == 6);
         assert!(rt; out.bytes().len() as u64 + 1 == call);
-        assert!(rt; b"end 0 0\n".starts_with(out.bytes()));
+        assert!(rt; printed.starts_with(out.bytes()));
         assert_eq!(rt; out.faults(), 1);
     }
     Ok(())

@@ -12,7 +12,8 @@ invariant-loop-taken g l = record {
   told_out : g.K.Sink.is_told l.out ≡ g.K.Sink.is_told l.fn.out;
   number : l.ran ≤ l.taken;
   fits : l.taken ≤ most_script_bytes;
-  so_far : Progress empty_world l.ran empty_world l.taken
+  events : l.present.state.machine.events ≤ l.ran;
+  so_far : Progress l.setup empty_world l.ran l.present l.taken
       (record { told = g.T.Source.is_told l.fn.script; before = g.T.Source.left l.fn.script; after = g.T.Source.left l.script })
       (record { told = g.K.Sink.is_told l.fn.out; before = g.K.Sink.taken l.fn.out; after = g.K.Sink.taken l.out });
 }
