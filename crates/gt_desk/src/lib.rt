@@ -10,8 +10,6 @@ mod laws;
 mod preparing;
 mod replaying;
 mod steps;
-#[cfg(test)]
-mod tests;
 
 pub use desk::Desk;
 pub use fault::{DeskFault, OpenFault, OpenRefused};

@@ -1,12 +1,11 @@
 ghost use Rattle.std.specs.Prelude.{IfOk};
 ghost use Rattle.gt_machine.specs.Run.{IsReached};
 
-use crate::{Decision, PlanFault, State, empty_states_are_reached};
+use crate::{PlanFault, State, empty_states_are_reached};
 use gt_paths::Path;
 use gt_setup::Setup;
 use gt_types::{
-    AccessSpec, Command, Event, Happening, Kept, Principal, Reply, Status, TransferEntry,
-    TransferSpec,
+    AccessSpec, Event, Happening, Kept, Principal, Status, TransferEntry, TransferSpec,
 };
 use gt_values::{Id, Moment, Sequence};
 use std::alloc::{AllocError, Global};
@@ -190,42 +189,42 @@ fn events_have_a_step_or_none(rt: HostRuntime) -> Result<(), Fail> {
     Ok(())
 }
 
-#[test]
-fn rules_keep_their_numbers(rt: HostRuntime) -> Result<(), Fail> {
-    let alloc = rt.alloc();
-    let setup = desk(alloc)?;
-    let mut state = first_state(alloc, &setup);
+// The state after three changes of access rules: one is made and replaced, and another is made.
+fn ruled(alloc: Global, setup: &Setup) -> Result<State, Fail>
+    ensures { IfOk result (λ state. IsReached setup.now state.machine) }
+{
+    let mut state = first_state(alloc, setup);
+    let _ = comes(alloc, &mut state, setup, 5, add(alloc, 2, "/d", false)?)?;
     let replace = Happening::AccessReplace {
         rule: 1,
         write: true,
     };
-    let end = Happening::AccessEnd { rule: 1 };
-    assert!(rt; comes(alloc, &mut state, &setup, 5, add(alloc, 2, "/d", false)?)?);
-    assert!(rt; !comes(alloc, &mut state, &setup, 5, add(alloc, 2, "/d", true)?)?);
-    assert!(rt; !comes(alloc, &mut state, &setup, 5, add(alloc, 3, "/d", true)?)?);
-    assert!(rt; comes(alloc, &mut state, &setup, 5, replace)?);
-    assert!(rt; comes(alloc, &mut state, &setup, 6, add(alloc, 1, "/d", false)?)?);
-    assert!(rt; comes(alloc, &mut state, &setup, 6, end)?);
-    assert!(rt;
-        !comes(
-            alloc,
-            &mut state,
-            &setup,
-            7,
-            Happening::AccessEnd { rule: 1 }
-        )?
-    );
-    assert!(rt;
-        !comes(
-            alloc,
-            &mut state,
-            &setup,
-            7,
-            Happening::AccessEnd { rule: 3 }
-        )?
-    );
-    assert!(rt; comes(alloc, &mut state, &setup, 7, add(alloc, 2, "/d", false)?)?);
+    let _ = comes(alloc, &mut state, setup, 5, replace)?;
+    let _ = comes(alloc, &mut state, setup, 6, add(alloc, 1, "/d", false)?)?;
+    Ok(state)
+}
 
+// The state after the first of those rules has ended, and one like it is made.
+fn ruled_again(alloc: Global, setup: &Setup) -> Result<State, Fail>
+    ensures { IfOk result (λ state. IsReached setup.now state.machine) }
+{
+    let mut state = ruled(alloc, setup)?;
+    let _ = comes(
+        alloc,
+        &mut state,
+        setup,
+        6,
+        Happening::AccessEnd { rule: 1 },
+    )?;
+    let _ = comes(alloc, &mut state, setup, 7, add(alloc, 2, "/d", false)?)?;
+    Ok(state)
+}
+
+#[test]
+fn rules_keep_their_numbers(rt: HostRuntime) -> Result<(), Fail> {
+    let alloc = rt.alloc();
+    let setup = desk(alloc)?;
+    let state = ruled_again(alloc, &setup)?;
     let want: [(u64, bool, u64, Option<u64>); 4] = [
         (1, false, 1, Some(2)),
         (1, true, 2, Some(4)),
@@ -244,42 +243,74 @@ fn rules_keep_their_numbers(rt: HostRuntime) -> Result<(), Fail> {
 }
 
 #[test]
+fn changes_of_rules_have_a_step_or_none(rt: HostRuntime) -> Result<(), Fail> {
+    let alloc = rt.alloc();
+    let setup = desk(alloc)?;
+    // A rule like a live one has none, whatever it permits; another path or collection is another rule.
+    for (collection, text, write, has_step) in [
+        (2, "/d", true, false),
+        (2, "/e", false, true),
+        (0, "/d", false, true),
+        (3, "/e", false, false),
+    ] {
+        let mut state = ruled_again(alloc, &setup)?;
+        let what = add(alloc, collection, text, write)?;
+        assert!(rt; comes(alloc, &mut state, &setup, 8, what)? == has_step);
+    }
+    // A rule that ended has none, and one that isn't there.
+    for (rule, has_step) in [(1, false), (2, true), (3, true), (4, false)] {
+        let mut state = ruled_again(alloc, &setup)?;
+        let what = Happening::AccessEnd { rule };
+        assert!(rt; comes(alloc, &mut state, &setup, 8, what)? == has_step);
+    }
+    Ok(())
+}
+
+// A submission of 10,000 entries.
+fn fills(alloc: Global, state: &mut State, setup: &Setup, submission: u8) -> Result<bool, Fail>
+    requires { IsReached setup.now state.old.machine }
+    ensures { IsReached setup.now state.new.machine }
+{
+    let many = transfer(alloc, 0, 1, "/e", 10_000)?;
+    comes(alloc, state, setup, 5, submit(ANN, submission, many))
+}
+
+// Four such submissions, from this one on.
+fn four_fill(alloc: Global, state: &mut State, setup: &Setup, first: u8) -> Result<bool, Fail>
+    requires { IsReached setup.now state.old.machine }
+    ensures { IsReached setup.now state.new.machine }
+{
+    Ok(
+        fills(alloc, state, setup, first)?
+            && fills(alloc, state, setup, first.wrapping_add(1))?
+            && fills(alloc, state, setup, first.wrapping_add(2))?
+            && fills(alloc, state, setup, first.wrapping_add(3))?,
+    )
+}
+
+// Twenty such submissions, from this one on.
+fn twenty_fill(alloc: Global, state: &mut State, setup: &Setup, first: u8) -> Result<bool, Fail>
+    requires { IsReached setup.now state.old.machine }
+    ensures { IsReached setup.now state.new.machine }
+{
+    Ok(
+        four_fill(alloc, state, setup, first)?
+            && four_fill(alloc, state, setup, first.wrapping_add(4))?
+            && four_fill(alloc, state, setup, first.wrapping_add(8))?
+            && four_fill(alloc, state, setup, first.wrapping_add(12))?
+            && four_fill(alloc, state, setup, first.wrapping_add(16))?,
+    )
+}
+
+#[test]
 fn items_are_at_most_400_000(rt: HostRuntime) -> Result<(), Fail> {
     let alloc = rt.alloc();
     let setup = desk(alloc)?;
     let mut state = first_state(alloc, &setup);
-    for submission in 1..41u8 {
-        let many = transfer(alloc, 0, 1, "/e", 10_000)?;
-        assert!(rt; comes(alloc, &mut state, &setup, 5, submit(ANN, submission, many))?);
-    }
+    assert!(rt; twenty_fill(alloc, &mut state, &setup, 1)?);
+    assert!(rt; twenty_fill(alloc, &mut state, &setup, 21)?);
     let one = transfer(alloc, 0, 1, "/e", 1)?;
     assert!(rt; !comes(alloc, &mut state, &setup, 5, submit(ANN, 41, one))?);
     assert_eq!(rt; state.events(), 40);
-    Ok(())
-}
-
-#[test]
-fn identifiers_are_issued_in_order(rt: HostRuntime) -> Result<(), Fail> {
-    let alloc = rt.alloc();
-    let setup = desk(alloc)?;
-    let mut state = first_state(alloc, &setup);
-    for number in 1..4u64 {
-        let moment = Moment::of(10 - number).ok_or("a moment")?;
-        let Some(who) = setup.who(&id(BOB)) else {
-            return Err(Fail::from("an identity"));
-        };
-        if state.events() >= 1 << 62 {
-            return Err(Fail::from("few events"));
-        }
-        let decision = state.decide(alloc, &setup, who, &Command::IssueId, moment)?;
-        let Decision::Do(event, reply) = decision else {
-            return Err(Fail::from("an event"));
-        };
-        // The moment of an event isn't below that of an earlier one.
-        assert_eq!(rt; event.moment.seconds(), 9);
-        assert!(rt; matches!(reply, Reply::Identifier { number: n } if n == number));
-        state.take_event(alloc, &setup, event)?;
-    }
-    assert_eq!(rt; state.events(), 3);
     Ok(())
 }
