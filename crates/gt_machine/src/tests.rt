@@ -1,11 +1,12 @@
 ghost use Rattle.std.specs.Prelude.{IfOk};
 ghost use Rattle.gt_machine.specs.Run.{IsReached};
 
-use crate::{PlanFault, State, empty_states_are_reached};
+use crate::{Decision, PlanFault, State, empty_states_are_reached};
 use gt_paths::Path;
 use gt_setup::Setup;
 use gt_types::{
-    AccessSpec, Event, Happening, Kept, Principal, Status, TransferEntry, TransferSpec,
+    AccessSpec, Command, Event, Happening, Kept, Principal, Reply, Status, TransferEntry,
+    TransferSpec, Who,
 };
 use gt_values::{Id, Moment, Sequence};
 use std::alloc::{AllocError, Global};
@@ -155,6 +156,43 @@ fn submissions_make_a_task_each(rt: HostRuntime) -> Result<(), Fail> {
         assert_eq!(rt; line.pending, number);
         assert_eq!(rt; line.files_transferred, 0);
     }
+    Ok(())
+}
+
+// What ANN is answered who asks for an identifier: the moment of the event that it makes, and the number.
+fn asks(alloc: Global, state: &State, setup: &Setup, seconds: u64) -> Result<(u64, u64), Fail>
+    requires { IsReached setup.now state.now.machine }
+{
+    let now = Moment::of(seconds).ok_or("a moment")?;
+    if state.events() >= 1 << 62 {
+        return Err(Fail::from("few events"));
+    }
+    let who = Who {
+        identity: id(ANN),
+        groups: Sequence::new(alloc),
+    };
+    if setup.who(&who.identity).is_none() {
+        return Err(Fail::from("no caller"));
+    }
+    match state.decide(alloc, setup, &who, &Command::IssueId, now)? {
+        Decision::Do(event, reply) => match reply {
+            Reply::Identifier { number } => Ok((event.moment.seconds(), number)),
+            _ => Err(Fail::from("another reply")),
+        },
+        Decision::Say(_) => Err(Fail::from("no event")),
+    }
+}
+
+// An identifier that is asked for has the next number, and its event's moment is at least the greatest so far.
+#[test]
+fn identifiers_are_answered_in_order(rt: HostRuntime) -> Result<(), Fail> {
+    let alloc = rt.alloc();
+    let setup = desk(alloc)?;
+    let first = first_state(alloc, &setup);
+    assert_eq!(rt; asks(alloc, &first, &setup, 100)?, (100, 1));
+    let later = replayed(alloc, &setup)?;
+    assert_eq!(rt; asks(alloc, &later, &setup, 119)?, (120, 2));
+    assert_eq!(rt; asks(alloc, &later, &setup, 121)?, (121, 2));
     Ok(())
 }
 
