@@ -1,5 +1,5 @@
 -- No call takes an event away from the history.
-use Rattle.std.proofs.Common.{◌≡◌, ℕ, ◌⊎◌, inl, inr, ⊎_elim, List, [], ◌∷◌, ◌++◌, Option, None, Some, Result, Ok, Err, sym, ap, subst, ◌∙◌, append_assoc, refl, rules}
+use Rattle.std.proofs.Common.{◌≡◌, ℕ, ⊎_elim, List, [], ◌∷◌, ◌++◌, Option, None, Some, Result, Ok, Err, ap, subst, ◌∙◌, append_assoc, refl, rules}
 use Rattle.gt_desk.specs.Calls.{AreCalls, Call, Keeps, last_disk}
 use Rattle.gt_desk.specs.DeskCall.{DeskCall, IsSettled, events_in}
 use Rattle.gt_desk.specs.History.{Ledger, Stands, StandsDuring, StandsFor, StandsWith}

@@ -1,5 +1,5 @@
 -- Replaying body by body, and where it stops.
-use Rattle.std.proofs.Common.{◌≡◌, ℕ, inl, inr, ◌<◌, ◌+◌, List, [], ◌∷◌, ◌++◌, Some, Vec, Global, map, length, take, drop, get_or, refl, sym, ap, subst, ◌∙◌, append_assoc, take-append-drop, length-take, true, arith}
+use Rattle.std.proofs.Common.{◌≡◌, ℕ, inl, inr, ◌<◌, ◌+◌, List, [], ◌∷◌, ◌++◌, Some, Vec, Global, length, take, drop, get_or, sym, ap, subst, ◌∙◌, append_assoc, take-append-drop, length-take, arith}
 use Rattle.std.proofs.lemmas.List.{get_or-map, length-map, take_more}
 use Rattle.gt_desk.specs.Damage.{HasRecords, IsBadBody, IsDamagedAt, IsTextOf}
 use Rattle.gt_desk.specs.Desk.{events_of}

@@ -1,11 +1,11 @@
 -- The parts of a call make the call.
-use Rattle.std.proofs.Common.{◌≡◌, ◌⊎◌, ℕ, inl, inr, ⊎_elim, List, [], ◌∷◌, ◌++◌, Option, None, Some, IsSome, Result, Ok, Err, refl, sym, ap, subst, ◌∙◌, rules}
-use Rattle.gt_desk.specs.DeskCall.{Answered, DeskCall, FailedToRecord, IsSettled, Made, OnlySettled, events_in}
-use Rattle.gt_desk.specs.History.{Ledger, Stands, StandsDuring, StandsFor, StandsWith}
-use Rattle.gt_desk.specs.MachineCall.{AnsweredOn, IsDecided, IsSettledState, MachineCall}
+use Rattle.std.proofs.Common.{◌≡◌, ℕ, inl, inr, ⊎_elim, List, [], ◌∷◌, ◌++◌, Option, None, Some, IsSome, Result, Ok, Err, refl, sym, ap, subst, ◌∙◌, rules}
+use Rattle.gt_desk.specs.DeskCall.{Answered, DeskCall, IsSettled, Made, OnlySettled, events_in}
+use Rattle.gt_desk.specs.History.{Ledger, StandsDuring, StandsWith}
+use Rattle.gt_desk.specs.MachineCall.{IsDecided, IsSettledState, MachineCall, MadeOn}
 use Rattle.gt_desk.specs.declared.fault.DeskFault.{DeskFault}
 use Rattle.gt_desk.specs.declared.fault.DeskFault.TheVariants as faults
-use Rattle.gt_desk.proofs.Standing.{settled_same, state_same}
+use Rattle.gt_desk.proofs.Standing.{settled_same, stands_before}
 use Rattle.gt_machine.specs.Answer.{answer_of, reply_of}
 use Rattle.gt_machine.specs.MachineState.{MachineState}
 use Rattle.gt_machine.specs.Run.{run_of}
@@ -17,7 +17,7 @@ use Rattle.gt_types.specs.declared.command.Command.{Command}
 use Rattle.gt_types.specs.declared.event.Event.{Event}
 use Rattle.gt_types.specs.declared.reply.Reply.{Reply}
 
-append_none : (events : List Event) → events ≡ events ++ []
+pub append_none : (events : List Event) → events ≡ events ++ []
 append_none events = grind rules
 
 -- a call that begins with nothing in doubt
@@ -65,23 +65,36 @@ module _ (setup : Setup) (identity : List ℕ) (command : Command) (now : ℕ) (
   not_made runs event reply is faults.OutOfMemory made = gave_up made
 
 -- the same of the machine
-module _ (setup : Setup) (identity : List ℕ) (command : Command) (now : ℕ) (m new : MachineState) where
-  pub machine_say : (reply : Reply) → Say reply ≡ answer_of setup m identity command now → new ≡ m → MachineCall setup identity command now None m (Ok reply) new
-  machine_say reply is same = record {
+module _ (setup : Setup) (identity : List ℕ) (command : Command) (now : ℕ) (m : MachineState) (new_doubt : Option Event) (new : MachineState) where
+  pub machine_say : (reply : Reply) → Say reply ≡ answer_of setup m identity command now → new_doubt ≡ None → new ≡ m
+      → MachineCall setup identity command now None m (Ok reply) new_doubt new
+  machine_say reply is clear same = record {
     settled = m;
     settles = refl;
     replies = ap reply_of is;
     step = subst (λ d. IsDecided setup d m new) is same;
+    clear = clear;
   }
 
-  pub machine_do : (event : Event) (reply : Reply) → Do event reply ≡ answer_of setup m identity command now → step_of setup m event ≡ Some new
-      → MachineCall setup identity command now None m (Ok reply) new
-  machine_do event reply is step = record {
+  pub machine_do : (event : Event) (reply : Reply) → Do event reply ≡ answer_of setup m identity command now → (step_of setup m event ≡ Some new) × (new_doubt ≡ None)
+      → MachineCall setup identity command now None m (Ok reply) new_doubt new
+  machine_do event reply is made = record {
     settled = m;
     settles = refl;
     replies = ap reply_of is;
-    step = subst (λ d. IsDecided setup d m new) is step;
+    step = subst (λ d. IsDecided setup d m new) is made.0;
+    clear = made.1;
   }
+
+  pub machine_failed : (event : Event) (reply : Reply) → Do event reply ≡ answer_of setup m identity command now
+      → (fault : DeskFault) → MadeOn setup event m (Err fault) new_doubt new → MachineCall setup identity command now None m (Err fault) new_doubt new
+  machine_failed event reply is faults.JournalFault made = inr (record {
+    settles = made.0;
+    event = event;
+    made = ap (λ (s : MachineState). events_in (answer_of setup s identity command now)) made.0 ∙ sym (ap events_in is);
+    dropped_or_in_doubt = made.1;
+  })
+  machine_failed event reply is faults.OutOfMemory made = record { settles = made.0; clear = made.1 }
 
 no_doubt : (doubt : Option Event) → doubt ≡ None → IsSome doubt → ⊥
 no_doubt None clear some = absurd (cc)
@@ -117,22 +130,28 @@ module _ (setup : Setup) (identity : List ℕ) (command : Command) (now : ℕ) (
       })) call
   settled_call (Err faults.OutOfMemory) call = record { settles = further new.history call.settles; clear = call.clear }
 
-  stands_before : (doubt : Option Event) (history : List Event) → IsSettled doubt history mid.history → (c : List ℕ) → StandsFor setup mid.history c → StandsWith setup history doubt c
-  stands_before None history is c stands = subst (λ h. StandsFor setup h c) is stands
-  stands_before (Some event) history is c stands =
-      ⊎_elim (λ same. inl (subst (λ h. StandsFor setup h c) same stands)) (λ more. inr (subst (λ h. StandsFor setup h c) more stands)) is
-
   -- what stands for the settled history stood for the ledger before
   pub during_settled : (c : List ℕ) → StandsDuring setup mid new c → StandsDuring setup old new c
   during_settled c during =
-      ⊎_elim (λ stands. inl (stands_before old.doubt old.history settles c (subst (λ d. StandsWith setup mid.history d c) clear stands))) (λ after. inr after) during
+      ⊎_elim (λ stands. inl (stands_before setup old.doubt old.history mid.history settles c (subst (λ d. StandsWith setup mid.history d c) clear stands))) (λ after. inr after) during
 
-pub settled_machine : (setup : Setup) (identity : List ℕ) (command : Command) (now : ℕ) (doubt : Option Event) (old mid new : MachineState) (result : Result Reply DeskFault)
-    → IsSettledState setup doubt old mid → MachineCall setup identity command now None mid result new → MachineCall setup identity command now doubt old result new
-settled_machine setup identity command now doubt old mid new (Ok reply) settles call = record {
-  settled = mid;
-  settles = settles;
-  replies = subst (λ s. reply ≡ reply_of (answer_of setup s identity command now)) call.settles call.replies;
-  step = subst (λ s. IsDecided setup (answer_of setup s identity command now) s new) call.settles call.step;
-}
-settled_machine setup identity command now doubt old mid new (Err fault) settles call = subst (λ s. IsSettledState setup doubt old s) (sym call) settles
+-- a call of the machine after the event in doubt was settled
+module _ (setup : Setup) (identity : List ℕ) (command : Command) (now : ℕ) (doubt : Option Event) (old mid : MachineState) (settles : IsSettledState setup doubt old mid) (new_doubt : Option Event) (new : MachineState) where
+  pub settled_machine : (result : Result Reply DeskFault) → MachineCall setup identity command now None mid result new_doubt new
+      → MachineCall setup identity command now doubt old result new_doubt new
+  settled_machine (Ok reply) call = record {
+    settled = mid;
+    settles = settles;
+    replies = subst (λ s. reply ≡ reply_of (answer_of setup s identity command now)) call.settles call.replies;
+    step = subst (λ s. IsDecided setup (answer_of setup s identity command now) s new) call.settles call.step;
+    clear = call.clear;
+  }
+  settled_machine (Err faults.JournalFault) call =
+      ⊎_elim (λ failed. absurd (no_doubt None refl failed.in_doubt))
+      (λ failed. inr (record {
+        settles = subst (λ s. IsSettledState setup doubt old s) (sym failed.settles) settles;
+        event = failed.event;
+        made = failed.made;
+        dropped_or_in_doubt = failed.dropped_or_in_doubt;
+      })) call
+  settled_machine (Err faults.OutOfMemory) call = record { settles = subst (λ s. IsSettledState setup doubt old s) (sym call.settles) settles; clear = call.clear }

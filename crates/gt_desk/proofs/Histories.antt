@@ -1,5 +1,5 @@
 -- Bodies and the events whose texts they are, and runs of one event more.
-use Rattle.std.proofs.Common.{◌≡◌, ℕ, List, [], ◌∷◌, ◌++◌, Option, None, Some, IsSome, map, length, refl, sym, ap, subst, ◌∙◌, append_assoc, true, rules}
+use Rattle.std.proofs.Common.{◌≡◌, ℕ, List, [], ◌∷◌, ◌++◌, Option, None, Some, IsSome, map, refl, sym, ap, subst, ◌∙◌, append_assoc, true, rules}
 use Rattle.std.specs.Prelude.{option_and_then}
 use Rattle.std.proofs.lemmas.List.{map-append}
 use Rattle.gt_desk.specs.Desk.{events_of, listed}

@@ -3,6 +3,8 @@ pub mod Standing
 pub mod Damages
 pub mod Identities
 pub mod DeskCalls
+pub mod MachineCalls
 pub mod CallLemmas
 pub mod SubmissionLemmas
 pub mod Readings
+pub mod Reopenings

@@ -1,8 +1,8 @@
 -- A file stands for one history or is damaged at one place.
-use Rattle.std.proofs.Common.{◌≡◌, ◌⊎◌, ℕ, suc, inl, inr, ⊎_elim, ◌<◌, ◌^◌, ◌&&◌, List, [], ◌∷◌, ◌++◌, Option, None, Some, IsSome, Bool, true, false, map, length, refl, sym, ap, subst, ◌∙◌, arith, rules}
+use Rattle.std.proofs.Common.{◌≡◌, ℕ, suc, inr, ⊎_elim, ◌<◌, ◌^◌, ◌&&◌, List, [], ◌∷◌, ◌++◌, Option, None, Some, IsSome, Bool, true, false, map, length, refl, sym, ap, subst, ◌∙◌, arith, rules}
 use Rattle.std.proofs.lemmas.List.{length-map}
 use Rattle.std.specs.Prelude.{nat_lt, option_and_then}
-use Rattle.gt_desk.specs.Damage.{HasRecords, IsBadAfter, IsBadBody, IsDamagedAt, IsTextOf}
+use Rattle.gt_desk.specs.Damage.{HasRecords, IsBadAfter, IsBadBody, IsDamagedAt}
 use Rattle.gt_desk.specs.Desk.{events_of, listed}
 use Rattle.gt_desk.specs.History.{StandsFor}
 use Rattle.gt_journal.specs.JournalText.{IsDamagedAfter, IsJournalText}

@@ -1,5 +1,5 @@
 -- From what the journal keeps to what the desk promises.
-use Rattle.std.proofs.Common.{◌≡◌, ℕ, ◌⊎◌, Bool, false, inl, inr, ⊎_elim, List, [], ◌∷◌, ◌++◌, Option, None, Some, IsSome, map, refl, sym, ap, subst, ◌∙◌, true}
+use Rattle.std.proofs.Common.{◌≡◌, ℕ, ◌⊎◌, false, inl, inr, ⊎_elim, List, [], ◌∷◌, ◌++◌, Option, None, Some, IsSome, map, refl, sym, ap, subst, ◌∙◌, true}
 use Rattle.std.specs.Option.{option_map}
 use Rattle.std.proofs.lemmas.List.{map-append}
 use Rattle.std.specs.Prelude.{IfSome, is_some}
@@ -17,7 +17,7 @@ use Rattle.gt_journal.specs.declared.settled.Settled.TheVariants.{Nothing, Kept,
 use Rattle.gt_machine.specs.Change.{Held}
 use Rattle.gt_machine.specs.MachineState.{MachineState}
 use Rattle.gt_machine.specs.Run.{IsReached, run_of}
-use Rattle.gt_machine.specs.Step.{next_of, step_of}
+use Rattle.gt_machine.specs.Step.{step_of}
 use Rattle.gt_machine.specs.declared.change.Change.{Change}
 use Rattle.gt_records.specs.RecordText.{record_text}
 use Rattle.gt_setup.specs.Setup.{Setup}
@@ -113,6 +113,12 @@ settled_same (Some event) old new same = inl same
 
 pub settled_kept : (doubt : Option Event) (event : Event) (old new : List Event) → doubt ≡ Some event → new ≡ old ++ event ∷ [] → IsSettled doubt old new
 settled_kept doubt event old new is more = subst (λ d. IsSettled d old new) (sym is) (inr more)
+
+-- what stands for the settled history stood for the one before, with its doubt
+pub stands_before : (setup : Setup) (doubt : Option Event) (old settled : List Event) → IsSettled doubt old settled → (c : List ℕ) → StandsFor setup settled c → StandsWith setup old doubt c
+stands_before setup None old settled is c stands = subst (λ h. StandsFor setup h c) is stands
+stands_before setup (Some event) old settled is c stands =
+    ⊎_elim (λ same. inl (subst (λ h. StandsFor setup h c) same stands)) (λ more. inr (subst (λ h. StandsFor setup h c) more stands)) is
 
 pub state_same : (setup : Setup) (doubt : Option Event) (old : MachineState) → IsSettledState setup doubt old old
 state_same setup None old = refl

@@ -1,10 +1,10 @@
 ghost use Rattle.std.specs.Prelude.{IfErr, IfOk, IsErrOf, IsTrue, List, None, Some, length, ℕ, ◌≡◌, ◌≤◌};
 ghost use Rattle.gt_causes.specs.Causes.{Rose};
-ghost use Rattle.gt_desk.specs.DeskCall.{DeskCall};
+ghost use Rattle.gt_desk.specs.DeskCall.{DeskCall, IsSettled};
 ghost use Rattle.gt_desk.specs.History.{Stands, StandsDuring, StandsFor};
 ghost use Rattle.gt_desk.specs.MachineCall.{MachineCall};
 ghost use Rattle.gt_desk.specs.Opening.{IsDamagedAs, MayBeLeft};
-ghost use Rattle.gt_desk.specs.declared.fault.OpenFault.TheVariants.{JournalFault as OpenDiskFault};
+ghost use Rattle.gt_desk.specs.declared.fault.OpenFault.TheVariants.{Damaged, JournalFault as OpenDiskFault};
 ghost use Rattle.gt_disk.specs.Disk.{LeavesOnly, NoMore, Only};
 ghost use Rattle.gt_journal.specs.Opening as journal;
 ghost use Rattle.gt_journal.specs.declared.open_fault.OpenFault.TheVariants.{JournalFault as DiskFault};
@@ -14,10 +14,11 @@ ghost use Rattle.gt_setup.specs.Setup.{has_identity};
 ghost use Rattle.gt_types.specs.Command.{is_command};
 ghost use Rattle.gt_types.specs.Reply.{is_printable};
 
+use crate::laws::one_history;
 use crate::replaying::replay;
 use crate::{DeskFault, OpenFault, OpenRefused};
 use gt_disk::Disk;
-use gt_journal::{Journal, OpenFault as JournalOpenFault};
+use gt_journal::{Journal, OpenFault as JournalOpenFault, one_reading};
 use gt_machine::{Change, State};
 use gt_setup::Setup;
 use gt_types::{Command, Reply};
@@ -115,6 +116,38 @@ impl<D: Disk> Desk<D> {
         }
     }
 
+    /// Closes the desk and opens it again on its disk, which settles the event in doubt: it counts where its record is there.
+    pub fn reopen(self, alloc: Global) -> Result<Desk<D>, OpenRefused<D>>
+        ensures setup { IfOk result (λ desk. desk.setup ≡ self.setup) }
+        ensures setup_err { IfErr result (λ refused. refused.setup ≡ self.setup) }
+        ensures clear { IfOk result (λ desk. desk.ledger.doubt ≡ None) }
+        // All that was acknowledged is still there.
+        ensures settled { IfOk result (λ desk. IsTrue (D.is_honest self.disk) → IsSettled self.ledger.doubt self.ledger.history desk.ledger.history) }
+
+        // A crash at any moment of the call leaves what stands for the ledger before it, or for the one after it.
+        ensures any_moment { IfOk result (λ desk. IsTrue (D.is_honest self.disk) → LeavesOnly D.moment D.left_since self.disk desk.disk (StandsDuring self.setup self.ledger desk.ledger)) }
+        ensures any_moment_err { IfErr result (λ refused. IsTrue (D.is_honest self.disk) → LeavesOnly D.moment D.left_since self.disk refused.disk (Stands self.setup self.ledger)) }
+        ensures images { IfOk result (λ desk. IsTrue (D.is_honest self.disk) → NoMore (Stands self.setup desk.ledger) (D.may_leave desk.disk)) }
+        ensures images_err { IfErr result (λ refused. IsTrue (D.is_honest self.disk) → NoMore (Stands self.setup self.ledger) (D.may_leave refused.disk)) }
+
+        ensures never_damaged { IfErr result (λ refused. IsTrue (D.is_honest self.disk) → (number : ℕ) → refused.fault ≡ Damaged number → ⊥) }
+        ensures cause { IfErr result (λ refused. refused.fault ≡ OpenDiskFault → Rose (D.faults_of self.disk) (D.faults_of refused.disk)) }
+        ensures later { IfOk result (λ desk. D.faults_of self.disk ≤ D.faults_of desk.disk) }
+        ensures later_err { IfErr result (λ refused. D.faults_of self.disk ≤ D.faults_of refused.disk) }
+        ensures honest { IfOk result (λ desk. D.is_honest desk.disk ≡ D.is_honest self.disk) }
+        ensures honest_err { IfErr result (λ refused. D.is_honest refused.disk ≡ D.is_honest self.disk) }
+        ensures loan { IfOk result (λ desk. D.loan desk.disk ≡ D.loan self.disk) }
+        ensures loan_err { IfErr result (λ refused. D.loan refused.disk ≡ D.loan self.disk) }
+    {
+        // For the proof alone: a file has one reading, and what a crash leaves now stands for the ledger.
+        one_reading();
+        one_history();
+        let _ = self.setup.collections();
+        let _ = self.state();
+        let (setup, disk) = self.close();
+        Desk::open(alloc, setup, disk)
+    }
+
     /// Answers the command of this identity at this moment. The event in doubt is settled first, then the machine decides,
     /// and the event that it makes is recorded.
     pub fn answer(
@@ -130,7 +163,7 @@ impl<D: Disk> Desk<D> {
 
         ensures setup { self.new.setup ≡ self.old.setup }
         ensures call { IsTrue (D.is_honest self.old.disk) → DeskCall self.old.setup identity.now command.now now self.old.ledger result self.new.ledger }
-        ensures machine { MachineCall self.old.setup identity.now command.now now self.old.ledger.doubt self.old.machine result self.new.machine }
+        ensures machine { MachineCall self.old.setup identity.now command.now now self.old.ledger.doubt self.old.machine result self.new.ledger.doubt self.new.machine }
         ensures printable { IfOk result (λ reply. IsTrue (is_printable (length self.old.setup.collections) reply)) }
 
         // A crash at any moment of the call leaves what stands for the ledger before it, or for the one after it.

@@ -1,15 +1,19 @@
 // What holds of calls of a desk one after another.
-ghost use Rattle.std.specs.Prelude.{Bool, IsTrue, List, Some, length, ℕ, ◌<◌, ◌^◌, ◌≡◌};
+ghost use Rattle.std.specs.Prelude.{Bool, IsTrue, List, Option, Result, Some, length, ℕ, ◌<◌, ◌^◌, ◌≡◌};
 ghost use Rattle.gt_desk.specs.Calls.{AreCalls, Call, IsOnlyTask, Keeps, last_disk};
 ghost use Rattle.gt_desk.specs.Damage.{IsDamagedAt};
-ghost use Rattle.gt_desk.specs.DeskCall.{Answered};
+ghost use Rattle.gt_desk.specs.DeskCall.{Answered, DeskCall};
 ghost use Rattle.gt_desk.specs.History.{Ledger, Stands, StandsFor};
+ghost use Rattle.gt_desk.specs.MachineCall.{MachineCall};
+ghost use Rattle.gt_desk.specs.declared.fault.DeskFault.{DeskFault};
 ghost use Rattle.gt_disk.specs.Disk.{LeavesOnly, NoMore};
 ghost use Rattle.gt_machine.specs.MachineState.{MachineState};
 ghost use Rattle.gt_machine.specs.Run.{run_of};
 ghost use Rattle.gt_setup.specs.Setup.{Setup};
+ghost use Rattle.gt_types.specs.declared.command.Command.{Command};
 ghost use Rattle.gt_types.specs.declared.command.Command.TheVariants.{SubmitTransfer as AskTransfer};
 ghost use Rattle.gt_types.specs.declared.event.Event.{Event};
+ghost use Rattle.gt_types.specs.declared.reply.Reply.{Reply};
 ghost use Rattle.gt_types.specs.declared.reply.Reply.TheVariants.{Submitted};
 ghost use Rattle.gt_types.specs.declared.spec.TransferSpec.{TransferSpec};
 
@@ -33,6 +37,14 @@ pub fn submission_sent_again_makes_one_task()
 {
     reached_states_are_sound();
 }
+
+/// Whatever its disk tells, a call answers as the machine does on some history: each list of events that leads to the state
+/// before the call goes on to one that leads to the state after it, and the call is one of the desk from the first to the other.
+pub fn a_call_is_of_some_history()
+    ensures { (setup : Setup) (identity : List ℕ) (command : Command) (now : ℕ) (history : List Event) (doubt : Option Event) (old : MachineState) (result : Result Reply DeskFault) (new_doubt : Option Event) (new : MachineState)
+        → MachineCall setup identity command now doubt old result new_doubt new → run_of setup history ≡ Some old
+        → (later : List Event) × (run_of setup later ≡ Some new) × DeskCall setup identity command now (record { history = history; doubt = doubt }) result (record { history = later; doubt = new_doubt }) }
+{}
 
 /// Under a setup a file stands for one history, or is damaged at one record, and never both.
 pub fn one_history()

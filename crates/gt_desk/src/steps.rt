@@ -3,7 +3,7 @@ ghost use Rattle.std.specs.Prelude.{IfErr, IfOk, IsErr, IsErrOf, IsSome, IsTrue,
 ghost use Rattle.gt_causes.specs.Causes.{HasCause, Rose};
 ghost use Rattle.gt_desk.specs.DeskCall.{DeskCall, FailedToSettle, IsSettled, Made};
 ghost use Rattle.gt_desk.specs.History.{Stands, StandsDuring};
-ghost use Rattle.gt_desk.specs.MachineCall.{IsSettledState, MachineCall};
+ghost use Rattle.gt_desk.specs.MachineCall.{FailedToSettleOn, IsSettledState, MachineCall, MadeOn};
 ghost use Rattle.gt_disk.specs.Disk.{LeavesOnly, NoMore};
 ghost use Rattle.gt_machine.specs.Answer.{HasStep, answer_of, is_answered, reply_of};
 ghost use Rattle.gt_machine.specs.Run.{run_of};
@@ -33,7 +33,7 @@ impl<D: Disk> Desk<D> {
         ensures machine { OnOk result (IsSettledState self.old.setup self.old.ledger.doubt self.old.machine self.new.machine) }
         ensures settles { OnOk result (IsTrue (D.is_honest self.old.disk) → IsSettled self.old.ledger.doubt self.old.ledger.history self.new.ledger.history) }
 
-        ensures err { IsErr result → self.new.machine ≡ self.old.machine }
+        ensures err { IsErr result → FailedToSettleOn self.old.ledger.doubt self.old.machine self.new.ledger.doubt self.new.machine }
         ensures err_ledger { IsErr result → IsTrue (D.is_honest self.old.disk) → FailedToSettle self.old.ledger self.new.ledger }
 
         ensures any_moment { IsTrue (D.is_honest self.old.disk) → LeavesOnly D.moment D.left_since self.old.disk self.new.disk (Stands self.old.setup self.old.ledger) }
@@ -90,8 +90,7 @@ impl<D: Disk> Desk<D> {
         requires recordable { IsTrue (is_recordable recordable_collections event) }
 
         ensures setup { self.new.setup ≡ self.old.setup }
-        ensures machine { OnOk result (step_of self.old.setup self.old.machine event ≡ Some self.new.machine) }
-        ensures err { IsErr result → self.new.machine ≡ self.old.machine }
+        ensures machine { MadeOn self.old.setup event self.old.machine result self.new.ledger.doubt self.new.machine }
         ensures made { IsTrue (D.is_honest self.old.disk) → Made event self.old.ledger result self.new.ledger }
 
         ensures any_moment { IsTrue (D.is_honest self.old.disk) → LeavesOnly D.moment D.left_since self.old.disk self.new.disk (StandsDuring self.old.setup self.old.ledger self.new.ledger) }
@@ -144,7 +143,7 @@ impl<D: Disk> Desk<D> {
 
         ensures setup { self.new.setup ≡ self.old.setup }
         ensures call { IsTrue (D.is_honest self.old.disk) → DeskCall self.old.setup identity.now command.now now self.old.ledger result self.new.ledger }
-        ensures machine { MachineCall self.old.setup identity.now command.now now None self.old.machine result self.new.machine }
+        ensures machine { MachineCall self.old.setup identity.now command.now now None self.old.machine result self.new.ledger.doubt self.new.machine }
         ensures printable { IfOk result (λ reply. IsTrue (is_printable (length self.old.setup.collections) reply)) }
 
         // A crash at any moment of the call leaves what stands for the ledger before it, or for the one after it.

@@ -1,4 +1,4 @@
-use Rattle.std.proofs.Common.{inr, subst, ap, rules, ◌≡◌}
+use Rattle.std.proofs.Common.{inr, subst, rules, ◌≡◌}
 use Rattle.gt_desk.proofs.Damages.{damaged_as}
 use Rattle.gt_journal.specs.Opening as journal
 use Rattle.gt_journal.specs.Opening.{lists}

@@ -1,5 +1,4 @@
-use Rattle.std.proofs.Common.{rules, arith, Err, ap, sym, ◌+◌, ◌<◌, ◌≡◌, ◌∙◌, List, [], length, get_or, take}
-use Rattle.gt_desk.specs.Opening.{Replays}
+use Rattle.std.proofs.Common.{rules, arith, Err, ap, sym, ◌<◌, ◌≡◌, ◌∙◌, [], length, get_or}
 use Rattle.gt_desk.proofs.Damages.{bad_at, body_at, many_lists, replays_more}
 use Rattle.gt_journal.specs.Opening.{lists}
 use Rattle.gt_desk.proofs.replaying.replay.Goals as goal

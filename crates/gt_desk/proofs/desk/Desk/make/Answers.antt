@@ -3,9 +3,9 @@ use Rattle.std.specs.Prelude.{IfSome, IsErr, IsSome, is_some}
 use Rattle.gt_desk.proofs.Histories.{events_more}
 use Rattle.gt_desk.proofs.Standing.{agrees_more, agrees_same, during_doubt, during_kept, during_none, found, is_none_of, is_there, no_change, reached_more, stands_now}
 use Rattle.gt_desk.specs.Desk.{Agrees, IsPending, event_in, events_of}
-use Rattle.gt_desk.specs.History.{Stands, StandsDuring, StandsWith}
+use Rattle.gt_desk.specs.History.{Stands, StandsWith}
 use Rattle.gt_disk.proofs.Moments.{weaker}
-use Rattle.gt_disk.specs.Disk.{LeavesOnly, NoMore}
+use Rattle.gt_disk.specs.Disk.{LeavesOnly}
 use Rattle.gt_journal.specs.JournalText.{IsJournalText}
 use Rattle.gt_journal.specs.Kept.{IsTextWithDoubt}
 use Rattle.gt_machine.specs.Step.{step_of}

@@ -1,4 +1,4 @@
-use Rattle.std.proofs.Common.{rules, ◌≡◌, ◌∙◌, ◌++◌, ◌∷◌, [], Option, None, Some, ap, subst, sym}
+use Rattle.std.proofs.Common.{rules, ◌≡◌, ◌∙◌, ◌++◌, ◌∷◌, [], Option, Some, ap, subst, sym}
 use Rattle.std.specs.Option.{option_map}
 use Rattle.std.specs.Prelude.{IfSome, IsErr}
 use Rattle.gt_desk.proofs.Histories.{events_more}
@@ -7,7 +7,7 @@ use Rattle.gt_desk.specs.Desk.{Agrees, IsPending, event_in, events_of}
 use Rattle.gt_desk.specs.DeskCall.{IsSettled}
 use Rattle.gt_desk.specs.History.{Stands, StandsWith}
 use Rattle.gt_disk.proofs.Moments.{weaker}
-use Rattle.gt_disk.specs.Disk.{LeavesOnly, NoMore}
+use Rattle.gt_disk.specs.Disk.{LeavesOnly}
 use Rattle.gt_journal.specs.Kept.{IsTextWithDoubt}
 use Rattle.gt_journal.specs.Settles.{Settles}
 use Rattle.gt_machine.specs.Step.{step_of}
