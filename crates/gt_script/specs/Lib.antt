@@ -1,0 +1,5 @@
+pub mod CommandLine
+pub mod Document
+pub mod Reading
+pub mod Script
+pub mod Submission

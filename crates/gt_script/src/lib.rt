@@ -1,0 +1,22 @@
+//! The lines of a script, read one by one from a source: what each asks of the desk, or that no line stands there.
+//!
+//! A line is its command line and, for a request, the body behind it (`specs/Script.antt`). `read_script_line` takes the
+//! bytes of one line and nothing behind them, within the limit of a script, and says of each answer which bytes were taken
+//! (`specs/Reading.antt`). A caller that reads line after line finds what it needs of the whole text in
+//! `proofs/ReadingLemmas.antt`.
+#![tactic(auto)]
+
+mod command_line;
+mod document;
+mod laws;
+mod line;
+mod reading;
+mod submission;
+#[cfg(test)]
+mod submission_tests;
+#[cfg(test)]
+mod tests;
+
+pub use laws::a_script_has_one_reading;
+pub use line::{Line, ScriptFault};
+pub use reading::{SCRIPT_LIMIT, read_script_line};

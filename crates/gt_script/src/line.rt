@@ -1,0 +1,44 @@
+ghost use Rattle.gt_script.specs.declared.line.Line.TheVariants.{End};
+ghost use Rattle.std.specs.Prelude.{IsTrue, ◌↔◌, ◌≡◌};
+
+use gt_types::Command;
+use gt_values::{Id, Moment};
+use thiserror::Error;
+
+/// A line of a script, with all that belongs to it.
+#[derive(Debug, Drop)]
+pub enum Line {
+    /// `end`: prints the numbers of events and of tasks and the table of tasks, and ends the run.
+    End,
+    /// `now SECONDS`: from here on this is the present moment.
+    Now(Moment),
+    /// `restart`: closes the desk and opens it again, and prints the number of events.
+    Restart,
+    /// `send TOKEN METHOD TARGET N`, with a body of N bytes and a newline: a request of this identity.
+    Send { identity: Id, command: Command },
+}
+
+impl Line {
+    /// Whether it is the end.
+    pub fn is_end(&self) -> bool
+        ensures { IsTrue result ↔ (self.now ≡ End) }
+    {
+        match self {
+            Line::End => true,
+            Line::Now(_) | Line::Restart | Line::Send { .. } => false,
+        }
+    }
+}
+
+/// Why no line was read.
+#[derive(Clone, Copy, Debug, PartialEq, Eq, Error)]
+pub enum ScriptFault {
+    /// No line of a script stands there, or it doesn't end within the script's limit.
+    #[error("no line of a script stands there")]
+    Refused,
+    /// The source failed, and counted it.
+    #[error("the source failed")]
+    SourceFault,
+    #[error("out of memory")]
+    OutOfMemory,
+}

@@ -1,0 +1,169 @@
+ghost use Rattle.gt_causes.specs.Causes.{Rose};
+ghost use Rattle.gt_script.specs.Reading.{BeginsCommand, BeginsNoLine, BeginsWith, BreaksOff, BreaksOffBody, GoesOn, GoesOnNowhere, HasNoBody, IsGoodCommand, IsGoodLine, IsGoodRequest, Stops, StopsBehind};
+ghost use Rattle.gt_script.specs.Script.{command_of, most_script_bytes};
+ghost use Rattle.std.specs.Prelude.{IfErr, IfOk, IfSome, IsErrOf, IsTrue, length, ◌++◌, ◌+◌, ◌<◌, ◌≡◌, ◌≤◌, ◌∷◌};
+
+use crate::command_line::{CommandLine, Route, read_command};
+use crate::line::{Line, ScriptFault};
+use crate::submission::read_submission;
+use gt_setup::Setup;
+use gt_streams::{LineEnd, Source, StreamFault, read_exactly, read_line};
+use gt_types::Command;
+use std::alloc::{AllocError, Global};
+
+/// The most bytes of a script, through the newline of its `end` line.
+pub const SCRIPT_LIMIT: u64 = 1_048_576;
+
+// A command line has at most 8,192 bytes: one more, with no newline among them, is too long.
+const COMMAND_LIMIT: u32 = 8_193;
+
+/// Reads the next line of a script under the setup. So many bytes of the script were taken before: the call adds those that
+/// it takes.
+///
+/// `Refused` comes exactly where no line stands there that ends within the limit, or where the input ends before it. Nothing
+/// behind the line is taken.
+pub fn read_script_line<S: Source>(
+    alloc: Global,
+    setup: &Setup,
+    script: &mut S,
+    taken: &mut u64,
+) -> Result<Line, ScriptFault>
+    requires { taken.old < most_script_bytes }
+    ensures line { IfOk result (λ line. IsTrue (S.is_told script.old) → BeginsWith setup.now line taken.old (S.left script.old) (S.left script.new) taken.new) }
+    ensures good { IfOk result (IsGoodLine setup.now) }
+    ensures refused { IsErrOf result ScriptFault.Refused → IsTrue (S.is_told script.old) → BeginsNoLine setup.now taken.old (S.left script.old) }
+    ensures stopped { IfErr result (λ fault. IsTrue (S.is_told script.old) → Stops setup.now taken.old (S.left script.old) (S.left script.new) fault) }
+    ensures counted { IfOk result (λ _. (taken.old < taken.new) × (taken.new ≤ most_script_bytes)) }
+    ensures fault { IsErrOf result ScriptFault.SourceFault → Rose (S.faults_of script.old) (S.faults_of script.new) }
+    ensures later { S.faults_of script.old ≤ S.faults_of script.new }
+    ensures told { S.is_told script.new ≡ S.is_told script.old }
+{
+    match read_command_line(alloc, setup, script, taken) {
+        Ok(command_line) => read_rest(alloc, setup, script, command_line, taken),
+        Err(fault) => Err(fault),
+    }
+}
+
+// Reads a command line with its newline.
+fn read_command_line<S: Source>(
+    alloc: Global,
+    setup: &Setup,
+    script: &mut S,
+    taken: &mut u64,
+) -> Result<CommandLine, ScriptFault>
+    requires { taken.old < most_script_bytes }
+    ensures command { IfOk result (λ line. IsTrue (S.is_told script.old) → BeginsCommand setup.now line taken.old (S.left script.old) (S.left script.new) taken.new) }
+    ensures good { IfOk result (IsGoodCommand setup.now) }
+    ensures refused { IsErrOf result ScriptFault.Refused → IsTrue (S.is_told script.old) → BeginsNoLine setup.now taken.old (S.left script.old) }
+    ensures stopped { IfErr result (λ _. IsTrue (S.is_told script.old) → BreaksOff setup.now taken.old (S.left script.old) (S.left script.new)) }
+    ensures counted { IfOk result (λ _. (taken.old < taken.new) × (taken.new ≤ most_script_bytes)) }
+    ensures fault { IsErrOf result ScriptFault.SourceFault → Rose (S.faults_of script.old) (S.faults_of script.new) }
+    ensures later { S.faults_of script.old ≤ S.faults_of script.new }
+    ensures told { S.is_told script.new ≡ S.is_told script.old }
+{
+    let mut command = Vec::new(alloc);
+    let end = read_line(script, COMMAND_LIMIT, &mut command);
+    *taken += command.len() as u64;
+    match end {
+        Ok(LineEnd::Line) => *taken += 1,
+        Err(StreamFault::ReadFault) => return Err(ScriptFault::SourceFault),
+        Err(StreamFault::OutOfMemory) => return Err(ScriptFault::OutOfMemory),
+        Ok(LineEnd::EndOfInput { have: _ }) => return Err(ScriptFault::Refused),
+        Err(StreamFault::TooLong { max: _ }) => return Err(ScriptFault::Refused),
+        Err(StreamFault::Cut { have: _, want: _ }) => unreachable!(),
+    }
+    if *taken > SCRIPT_LIMIT {
+        return Err(ScriptFault::Refused);
+    }
+    match read_command(setup, &command) {
+        Some(command_line) => Ok(command_line),
+        None => Err(ScriptFault::Refused),
+    }
+}
+
+// Reads what follows a command line.
+fn read_rest<S: Source>(
+    alloc: Global,
+    setup: &Setup,
+    script: &mut S,
+    command_line: CommandLine,
+    taken: &mut u64,
+) -> Result<Line, ScriptFault>
+    requires fits { taken.old ≤ most_script_bytes }
+    requires good_command { IsGoodCommand setup.now command_line }
+    ensures line { IfOk result (λ line. IsTrue (S.is_told script.old) → GoesOn setup.now command_line line taken.old (S.left script.old) (S.left script.new) taken.new) }
+    ensures good { IfOk result (IsGoodLine setup.now) }
+    ensures refused { IsErrOf result ScriptFault.Refused → IsTrue (S.is_told script.old) → GoesOnNowhere setup.now command_line taken.old (S.left script.old) }
+    ensures stopped { IfErr result (λ fault. IsTrue (S.is_told script.old) → StopsBehind setup.now command_line taken.old (S.left script.old) (S.left script.new) fault) }
+    ensures counted { IfOk result (λ _. (taken.old ≤ taken.new) × (taken.new ≤ most_script_bytes)) }
+    ensures fault { IsErrOf result ScriptFault.SourceFault → Rose (S.faults_of script.old) (S.faults_of script.new) }
+    ensures later { S.faults_of script.old ≤ S.faults_of script.new }
+    ensures told { S.is_told script.new ≡ S.is_told script.old }
+{
+    match command_line {
+        CommandLine::End => Ok(Line::End),
+        CommandLine::Now(moment) => Ok(Line::Now(moment)),
+        CommandLine::Restart => Ok(Line::Restart),
+        CommandLine::Send {
+            identity,
+            route,
+            size,
+        } => {
+            let body = read_body(alloc, script, size, taken)?;
+            match read_request(alloc, setup, route, &body) {
+                Ok(Some(command)) => Ok(Line::Send { identity, command }),
+                Ok(None) => Err(ScriptFault::Refused),
+                Err(AllocError) => Err(ScriptFault::OutOfMemory),
+            }
+        }
+    }
+}
+
+// Reads a body of so many bytes and a newline.
+fn read_body<S: Source>(
+    alloc: Global,
+    script: &mut S,
+    size: u64,
+    taken: &mut u64,
+) -> Result<Vec<u8>, ScriptFault>
+    requires { taken.old ≤ most_script_bytes }
+    ensures body { IfOk result (λ body. IsTrue (S.is_told script.old) → S.left script.old ≡ body.items ++ 10 ∷ S.left script.new) }
+    ensures counted { IfOk result (λ body. (length body.items ≡ size) × (taken.old + size + 1 ≡ taken.new) × (taken.new ≤ most_script_bytes)) }
+    ensures refused { IsErrOf result ScriptFault.Refused → IsTrue (S.is_told script.old) → HasNoBody size taken.old (S.left script.old) }
+    ensures stopped { IfErr result (λ _. IsTrue (S.is_told script.old) → BreaksOffBody size taken.old (S.left script.old) (S.left script.new)) }
+    ensures fault { IsErrOf result ScriptFault.SourceFault → Rose (S.faults_of script.old) (S.faults_of script.new) }
+    ensures later { S.faults_of script.old ≤ S.faults_of script.new }
+    ensures told { S.is_told script.new ≡ S.is_told script.old }
+{
+    if size >= SCRIPT_LIMIT - *taken {
+        return Err(ScriptFault::Refused);
+    }
+    let mut body = Vec::new(alloc);
+    match read_exactly(script, size + 1, &mut body) {
+        Ok(()) => *taken += size + 1,
+        Err(StreamFault::ReadFault) => return Err(ScriptFault::SourceFault),
+        Err(StreamFault::OutOfMemory) => return Err(ScriptFault::OutOfMemory),
+        Err(StreamFault::Cut { have: _, want: _ }) => return Err(ScriptFault::Refused),
+        Err(StreamFault::TooLong { max: _ }) => unreachable!(),
+    }
+    match body.pop() {
+        Some(b'\n') => Ok(body),
+        _ => Err(ScriptFault::Refused),
+    }
+}
+
+// The command that a request of this route and body gives.
+fn read_request(
+    alloc: Global,
+    setup: &Setup,
+    route: Route,
+    body: &[u8],
+) -> Result<Option<Command>, AllocError>
+    ensures value { IfOk result (λ command. command ≡ command_of setup.now route body.now) }
+    ensures good { IfOk result (λ o. IfSome o (IsGoodRequest setup.now)) }
+{
+    match route {
+        Route::SubmissionId => Ok(Some(Command::IssueId)),
+        Route::Transfer => read_submission(alloc, setup, body),
+    }
+}
