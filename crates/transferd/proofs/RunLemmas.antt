@@ -1,19 +1,33 @@
 -- A run with one line more.
+use Rattle.gt_script.specs.declared.line.Line.{Line}
+use Rattle.gt_script.specs.declared.line.Line.TheVariants.{End}
 use Rattle.gt_setup.specs.Setup.{Setup}
-use Rattle.std.proofs.Common.{List, [], ap, append-nil, append_assoc, length, refl, suc, sym, ◌++◌, ◌∙◌, ◌∷◌, ◌≡◌, ◌≢◌, ℕ}
+use Rattle.std.proofs.Common.{Bool, List, [], ap, append-nil, append_assoc, length, refl, suc, sym, ◌++◌, ◌∙◌, ◌∷◌, ◌≡◌, ◌≢◌, ℕ}
 use Rattle.transferd.specs.Output.{line_output, out_text}
-use Rattle.transferd.specs.Run.{IsUnended, Makes, Played, ScriptRun, lines_of, world_at}
-use Rattle.transferd.specs.World.{World, WorldRun, world_after}
-use Rattle.transferd.specs.declared.line.Line.{Line}
-use Rattle.transferd.specs.declared.line.Line.TheVariants.{End}
+use Rattle.transferd.specs.Run.{IsUnended, Makes, Played, ScriptRun, lines_of, steps_of, world_at}
+use Rattle.transferd.specs.World.{Taken, World, WorldRun, world_after}
 
-pub script_run_more : (setup : Setup) (start : World) (run : List Played) (played : Played) → ScriptRun setup start run → Makes played.line played.steps → WorldRun setup (world_at start run) played.steps → ScriptRun setup start (run ++ played ∷ [])
-script_run_more setup start [] played so_far makes steps = (makes, steps, tt)
-script_run_more setup start (first ∷ rest) played so_far makes steps = (so_far.0, so_far.1, script_run_more setup (world_after start first.steps) rest played so_far.2 makes steps)
+pub script_run_more : (setup : Setup) (honest : Bool) (start : World) (run : List Played) (played : Played) → ScriptRun setup honest start run → Makes played.line played.steps
+    → WorldRun setup honest (world_at start run) played.steps → ScriptRun setup honest start (run ++ played ∷ [])
+script_run_more setup honest start [] played so_far makes steps = (makes, steps, tt)
+script_run_more setup honest start (first ∷ rest) played so_far makes steps = (so_far.0, so_far.1, script_run_more setup honest (world_after start first.steps) rest played so_far.2 makes steps)
 
 pub world_at_more : (start : World) (run : List Played) (played : Played) → world_at start (run ++ played ∷ []) ≡ world_after (world_at start run) played.steps
 world_at_more start [] played = refl
 world_at_more start (first ∷ rest) played = world_at_more (world_after start first.steps) rest played
+
+world_after_append : (start : World) (first second : List Taken) → world_after start (first ++ second) ≡ world_after (world_after start first) second
+world_after_append start [] second = refl
+world_after_append start (taken ∷ rest) second = world_after_append taken.world rest second
+
+-- the world after all steps is the one after the lines
+pub world_at_steps : (start : World) (run : List Played) → world_after start (steps_of run) ≡ world_at start run
+world_at_steps start [] = refl
+world_at_steps start (first ∷ rest) = world_after_append start first.steps (steps_of rest) ∙ world_at_steps (world_after start first.steps) rest
+
+pub steps_of_more : (run : List Played) (played : Played) → steps_of (run ++ played ∷ []) ≡ steps_of run ++ played.steps
+steps_of_more [] played = append-nil played.steps
+steps_of_more (first ∷ rest) played = ap (λ (s : List Taken). first.steps ++ s) (steps_of_more rest played) ∙ sym (append_assoc first.steps (steps_of rest) played.steps)
 
 pub lines_of_more : (run : List Played) (played : Played) → lines_of (run ++ played ∷ []) ≡ lines_of run ++ played.line ∷ []
 lines_of_more [] played = refl

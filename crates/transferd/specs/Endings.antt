@@ -1,11 +1,15 @@
 -- How a run of a script ends: the lines that ran, and the bytes read and written.
+use Rattle.gt_desk.specs.declared.fault.OpenFault.TheVariants.{Damaged as OpenDamaged, JournalFault as OpenJournalFault, OutOfMemory as OpenOutOfMemory}
+use Rattle.gt_script.specs.Script.{EndsBehind, EndsWithNext, Reads}
+use Rattle.gt_script.specs.declared.line.Line.{Line}
+use Rattle.gt_script.specs.declared.line.Line.TheVariants.{End, Now, Restart, Send}
 use Rattle.gt_setup.specs.Setup.{Setup}
-use Rattle.std.specs.Prelude.{Bool, IsTrue, List, [], length, ◌++◌, ◌+◌, ◌∷◌, ◌≡◌, ℕ}
+use Rattle.std.specs.Prelude.{Bool, IsTrue, List, [], length, ◌++◌, ◌+◌, ◌∷◌, ◌≡◌, ◌⊎◌, ℕ}
 use Rattle.transferd.specs.Output.{IsPart, line_output, out_text}
-use Rattle.transferd.specs.Run.{IsEnded, IsUnended, Makes, Played, lines_of, world_at}
-use Rattle.transferd.specs.Script.{EndsBehind, EndsWithNext, Reads}
-use Rattle.transferd.specs.World.{Taken, World}
-use Rattle.transferd.specs.declared.line.Line.{Line}
+use Rattle.transferd.specs.Run.{FailsToReopen, IsEnded, IsOneStep, IsUnended, Makes, Played, lines_of, world_at}
+use Rattle.transferd.specs.World.{Ask, NoMemory, Taken, World}
+use Rattle.transferd.specs.declared.exit.Exit.{Exit}
+use Rattle.transferd.specs.declared.exit.Exit.TheVariants.{Damaged, Done, JournalFault, OutOfMemory, ScriptRefused, SetupRefused, SinkFault, SourceFault, Usage}
 
 -- whether a source or a sink tells its bytes, and these bytes before and after a run: those left in it, or those it took
 pub record Bytes : Type 0 where
@@ -34,20 +38,44 @@ pub record StopsReading (setup : Setup) (start : World) (run : List Played) (las
   pub read : IsTrue script.told → (beyond : List ℕ) × (gave : Gave setup (lines_of run) script beyond) × EndsBehind setup (lines_of run) gave.taken
   pub written : TookAll setup start run out
 
--- The source gave these lines and nothing behind a further one, which made no step. All that they print was written, and nothing more.
+-- The source gave these lines and nothing behind a further one, for which memory was wanted. All that they print was written.
 pub record GivesUp (setup : Setup) (start : World) (run : List Played) (last : List Taken) (script out : Bytes) : Type 0 where
   pub unended : IsUnended (lines_of run)
   pub idle : last ≡ []
   pub read : IsTrue script.told → (beyond : List ℕ) × (gave : Gave setup (lines_of run) script beyond) × EndsWithNext setup (lines_of run) gave.taken
   pub written : TookAll setup start run out
 
--- One more line was read and made its steps, the last ones. Of what it prints not all was written.
-pub record StopsPrinting (setup : Setup) (start : World) (run : List Played) (last : List Taken) (script out : Bytes) : Type 0 where
+-- nothing was written
+abbrev pub WroteNothing : Bytes → Type 0
+WroteNothing out = IsTrue out.told → out.after ≡ out.before
+
+-- the steps of a request whose caller was told that memory was wanted
+abbrev pub WantsMemory : Line → List Taken → Type 0
+WantsMemory (Send identity command) steps = IsOneStep (Ask identity command) (λ told. told ≡ NoMemory) steps
+WantsMemory Restart steps = FailsToReopen OpenOutOfMemory steps
+WantsMemory End steps = ⊥
+WantsMemory (Now moment) steps = ⊥
+
+-- What a line that was read whole made and wrote before the run stopped in it. A line whose output could not be written made
+-- all its steps; a desk that was not opened again made the line's only step; where memory was wanted the line made none of
+-- its steps, or one that wanted memory, or all of them, and wrote nothing.
+abbrev pub StopsLine : Exit → Setup → World → Line → List Taken → Bytes → Type 0
+StopsLine SinkFault setup start line steps out = Makes line steps × (IsTrue out.told → IsPart (line_output setup start line steps) out.before out.after)
+StopsLine JournalFault setup start line steps out = (line ≡ Restart) × FailsToReopen OpenJournalFault steps × WroteNothing out
+StopsLine (Damaged number) setup start line steps out = (line ≡ Restart) × FailsToReopen (OpenDamaged number) steps × WroteNothing out
+StopsLine OutOfMemory setup start line steps out = ((steps ≡ []) ⊎ (Makes line steps ⊎ WantsMemory line steps)) × WroteNothing out
+StopsLine Done setup start line steps out = ⊥
+StopsLine Usage setup start line steps out = ⊥
+StopsLine (SetupRefused fault) setup start line steps out = ⊥
+StopsLine (ScriptRefused number) setup start line steps out = ⊥
+StopsLine SourceFault setup start line steps out = ⊥
+
+-- One more line was read, and the run stopped in it. All that the lines before it print was written.
+pub record StopsIn (exit : Exit) (setup : Setup) (start : World) (run : List Played) (last : List Taken) (script out : Bytes) : Type 0 where
   pub unended : IsUnended (lines_of run)
   pub line : Line
-  pub makes : Makes line last
   pub read : GaveAll setup (lines_of run ++ line ∷ []) script
-  pub written : IsTrue out.told → IsPart (line_output setup (world_at start run) line last) (out.before ++ out_text setup start run) out.after
+  pub stops : StopsLine exit setup (world_at start run) line last (record out { before = out.before ++ out_text setup start run })
 
 -- The lines ran through the end, and all that they print was written.
 pub record Ends (setup : Setup) (start : World) (run : List Played) (last : List Taken) (script out : Bytes) : Type 0 where
@@ -63,3 +91,15 @@ pub record Refuses (number : ℕ) (setup : Setup) (start : World) (run : List Pl
   pub idle : last ≡ []
   pub read : IsTrue script.told → ((beyond : List ℕ) × Gave setup (lines_of run) script beyond) × EndsBehind setup (lines_of run) script.before
   pub written : TookAll setup start run out
+
+-- how a script's run ends, one row for each exit
+abbrev pub EndsAs : Exit → Setup → World → List Played → List Taken → Bytes → Bytes → Type 0
+EndsAs Done setup start run last script out = Ends setup start run last script out
+EndsAs Usage setup start run last script out = ⊥
+EndsAs (SetupRefused fault) setup start run last script out = ⊥
+EndsAs (ScriptRefused number) setup start run last script out = Refuses number setup start run last script out
+EndsAs SourceFault setup start run last script out = StopsReading setup start run last script out
+EndsAs SinkFault setup start run last script out = StopsIn SinkFault setup start run last script out
+EndsAs JournalFault setup start run last script out = StopsIn JournalFault setup start run last script out
+EndsAs (Damaged number) setup start run last script out = StopsIn (Damaged number) setup start run last script out
+EndsAs OutOfMemory setup start run last script out = GivesUp setup start run last script out ⊎ StopsIn OutOfMemory setup start run last script out

@@ -1,15 +1,11 @@
-pub mod CommandLine
-pub mod Document
+pub mod Crashes
 pub mod Endings
 pub mod Exits
 pub mod MainTheorem
 pub mod Opening
 pub mod Output
+pub mod Printing
 pub mod Progress
-pub mod Reading
-pub mod Replying
 pub mod Run
-pub mod Script
-pub mod Submission
 pub mod Words
 pub mod World

@@ -5,7 +5,7 @@ use Rattle.std.specs.Prelude.{Err, List, Ok, ◌≡◌, ℕ}
 use Rattle.transferd.specs.Endings.{Bytes}
 use Rattle.transferd.specs.MainTheorem.{ReadsSetup}
 use Rattle.transferd.specs.declared.exit.Exit.{Exit}
-use Rattle.transferd.specs.declared.exit.Exit.TheVariants.{Done, OutOfMemory, ScriptRefused, SetupRefused, SinkFault, SourceFault, Usage}
+use Rattle.transferd.specs.declared.exit.Exit.TheVariants.{Damaged, Done, JournalFault, OutOfMemory, ScriptRefused, SetupRefused, SinkFault, SourceFault, Usage}
 
 -- the bytes that were read stand for this setup
 abbrev pub IsOpened : Bytes → Setup → Type 0
@@ -20,3 +20,5 @@ IsNotOpened source Done = ⊥
 IsNotOpened source Usage = ⊥
 IsNotOpened source (ScriptRefused line) = ⊥
 IsNotOpened source SinkFault = ⊥
+IsNotOpened source JournalFault = ⊥
+IsNotOpened source (Damaged number) = ⊥

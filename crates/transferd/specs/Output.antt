@@ -6,15 +6,17 @@ use Rattle.gt_replies.specs.ReplyText.{reply_status, reply_text}
 use Rattle.gt_setup.specs.Setup.{Setup}
 use Rattle.gt_types.specs.declared.code.Status.{Status}
 use Rattle.gt_types.specs.declared.code.Status.TheVariants.{Active, Failed, Succeeded}
+use Rattle.gt_script.specs.declared.line.Line.{Line}
+use Rattle.gt_script.specs.declared.line.Line.TheVariants.{End, Now, Restart, Send}
 use Rattle.gt_types.specs.declared.reply.Reply.{Reply}
+use Rattle.gt_types.specs.declared.reply.Reply.TheVariants.{Refused}
+use Rattle.gt_types.specs.declared.reply.ReplyCode.TheVariants.{JournalFault}
 use Rattle.std.specs.Fmt.{decimal}
 use Rattle.std.specs.List.{flat_map}
 use Rattle.std.specs.Option.{option_map_or}
 use Rattle.std.specs.Prelude.{Bool, List, [], codes, if◌then◌else◌, length, take, ◌++◌, ◌<◌, ◌∷◌, ◌≡◌, ℕ}
 use Rattle.transferd.specs.Run.{Played}
-use Rattle.transferd.specs.World.{Quiet, Replied, Taken, Told, World, world_after}
-use Rattle.transferd.specs.declared.line.Line.{Line}
-use Rattle.transferd.specs.declared.line.Line.TheVariants.{End, Now, Send}
+use Rattle.transferd.specs.World.{NoMemory, NotOpened, Quiet, Reopened, Replied, Taken, Told, Unavailable, World, world_after}
 
 -- some bytes at the front of a text were written behind those before, and not all
 pub record IsPart (text before after : List ℕ) : Type 0 where
@@ -58,7 +60,12 @@ table_text events lines = count_text events (length lines) ++ flat_map task_text
 
 -- what an end prints: the table of the tasks that the history made
 abbrev pub end_text : Setup → World → List ℕ
-end_text setup world = option_map_or (λ machine. table_text (length world.history) (task_lines machine)) (run_of setup world.history) []
+end_text setup world =
+    option_map_or (λ machine. table_text (length world.ledger.history) (task_lines machine)) (run_of setup world.ledger.history) []
+
+-- what a reopened desk prints: `restart EVENTS`
+abbrev pub restart_text : ℕ → List ℕ
+restart_text events = codes "restart " ++ (decimal events ++ 10 ∷ [])
 
 -- what a reply prints: `reply STATUS LENGTH`, and its body on a line
 abbrev pub reply_line : Setup → Reply → List ℕ
@@ -66,16 +73,21 @@ reply_line setup reply =
     codes "reply " ++ (decimal (reply_status reply) ++ (codes " " ++ (decimal (length (reply_text setup reply)) ++ 10 ∷ [])))
     ++ reply_text setup reply ++ 10 ∷ []
 
--- what a step prints, by what it was told
+-- what a request prints, by what it was told
 abbrev pub told_text : Setup → Told → List ℕ
 told_text setup (Replied reply) = reply_line setup reply
+told_text setup Unavailable = reply_line setup (Refused JournalFault)
 told_text setup Quiet = []
+told_text setup Reopened = []
+told_text setup (NotOpened fault) = []
+told_text setup NoMemory = []
 
 -- what a line prints, by its steps from the world before it
 abbrev pub line_output : Setup → World → Line → List Taken → List ℕ
 line_output setup start End steps = end_text setup start
 line_output setup start (Now moment) steps = []
 line_output setup start (Send identity command) steps = flat_map (λ taken. told_text setup taken.told) steps
+line_output setup start Restart steps = restart_text (length (world_after start steps).ledger.history)
 
 -- what a run prints
 abbrev pub out_text : Setup → World → List Played → List ℕ

@@ -1,32 +1,48 @@
 -- A run of a script: its lines, each with the steps that it made.
+use Rattle.gt_desk.specs.declared.fault.OpenFault.{OpenFault}
+use Rattle.gt_script.specs.declared.line.Line.{Line}
+use Rattle.gt_script.specs.declared.line.Line.TheVariants.{End, Now, Restart, Send}
 use Rattle.gt_setup.specs.Setup.{Setup}
-use Rattle.std.specs.List.{AllByRecursion}
-use Rattle.std.specs.Prelude.{List, [], map, ◌++◌, ◌∷◌, ◌≡◌, ◌≢◌}
-use Rattle.transferd.specs.World.{Ask, SetMoment, Step, Taken, World, WorldRun, world_after}
-use Rattle.transferd.specs.declared.line.Line.{Line}
-use Rattle.transferd.specs.declared.line.Line.TheVariants.{End, Now, Send}
+use Rattle.std.specs.List.{AllByRecursion, flat_map}
+use Rattle.std.specs.Prelude.{Bool, List, [], map, ◌++◌, ◌∷◌, ◌≡◌, ◌≢◌}
+use Rattle.transferd.specs.World.{Ask, NoMemory, NotOpened, Quiet, Reopen, Reopened, Replied, SetMoment, Step, Taken, Told, Unavailable, World, WorldRun, world_after}
 
 -- a line that was carried out, and the steps that it made
 pub record Played : Type 0 where
   pub line : Line
   pub steps : List Taken
 
--- one step, and which
-abbrev pub IsOneStep : Step → List Taken → Type 0
-IsOneStep step [] = ⊥
-IsOneStep step (taken ∷ []) = taken.step ≡ step
-IsOneStep step (taken ∷ (second ∷ rest)) = ⊥
+-- one step, and this is said of what it was told
+abbrev pub IsOneStep : Step → (Told → Type 0) → List Taken → Type 0
+IsOneStep step is [] = ⊥
+IsOneStep step is (taken ∷ []) = (taken.step ≡ step) × is taken.told
+IsOneStep step is (taken ∷ (second ∷ rest)) = ⊥
+
+-- a request has its reply, or was told that the journal failed
+abbrev pub IsAnswer : Told → Type 0
+IsAnswer (Replied reply) = Unit {0}
+IsAnswer Unavailable = Unit {0}
+IsAnswer Quiet = ⊥
+IsAnswer Reopened = ⊥
+IsAnswer (NotOpened fault) = ⊥
+IsAnswer NoMemory = ⊥
 
 -- the steps of a whole line
 abbrev pub Makes : Line → List Taken → Type 0
 Makes End steps = steps ≡ []
-Makes (Now moment) steps = IsOneStep (SetMoment moment) steps
-Makes (Send identity command) steps = IsOneStep (Ask identity command) steps
+Makes (Now moment) steps = IsOneStep (SetMoment moment) (λ told. told ≡ Quiet) steps
+Makes (Send identity command) steps = IsOneStep (Ask identity command) IsAnswer steps
+Makes Restart steps = IsOneStep Reopen (λ told. told ≡ Reopened) steps
+
+-- the desk was not opened again, for this fault
+abbrev pub FailsToReopen : OpenFault → List Taken → Type 0
+FailsToReopen fault steps = IsOneStep Reopen (λ told. told ≡ NotOpened fault) steps
 
 -- each line made its steps, one line after another
-abbrev pub ScriptRun : Setup → World → List Played → Type 0
-ScriptRun setup start [] = Unit {0}
-ScriptRun setup start (played ∷ rest) = Makes played.line played.steps × WorldRun setup start played.steps × ScriptRun setup (world_after start played.steps) rest
+abbrev pub ScriptRun : Setup → Bool → World → List Played → Type 0
+ScriptRun setup honest start [] = Unit {0}
+ScriptRun setup honest start (played ∷ rest) =
+    Makes played.line played.steps × WorldRun setup honest start played.steps × ScriptRun setup honest (world_after start played.steps) rest
 
 -- the world after these lines
 abbrev pub world_at : World → List Played → World
@@ -35,6 +51,10 @@ world_at start (played ∷ rest) = world_at (world_after start played.steps) res
 
 abbrev pub lines_of : List Played → List Line
 lines_of run = map (λ played. played.line) run
+
+-- the steps of all lines
+abbrev pub steps_of : List Played → List Taken
+steps_of run = flat_map (λ played. played.steps) run
 
 -- none of these lines is the end
 abbrev pub IsUnended : List Line → Type 0

@@ -1,6 +1,8 @@
 ghost use Rattle.std.specs.Prelude.{◌≡◌};
 ghost use Rattle.transferd.specs.Exits.{status_of};
+ghost use Rattle.transferd.specs.Printing.{exit_of_open};
 
+use gt_desk::OpenFault;
 use gt_setup::SetupFault;
 
 /// How a run of the program ended.
@@ -10,7 +12,7 @@ pub enum Exit {
     Done,
     /// The words are in no form of a command.
     Usage,
-    /// The setup has this fault. Nothing of the script was read.
+    /// The setup has this fault. Nothing of the script was read, and the journal's disk wasn't used.
     SetupRefused { fault: SetupFault },
     /// No line of a script stands where this one should, counted from 1: lines before it were read and carried out.
     ScriptRefused { line: u64 },
@@ -18,6 +20,11 @@ pub enum Exit {
     SourceFault,
     /// The output's sink failed, and counted it.
     SinkFault,
+    /// The journal's disk failed while the desk was opened, at first or by a `restart` line, and counted it.
+    JournalFault,
+    /// This record of the journal, counted from 0, is the first that runs past the file, is the text of no event, or has
+    /// an event on which the machine has no step.
+    Damaged { at_record: u64 },
     OutOfMemory,
 }
 
@@ -33,7 +40,20 @@ impl Exit {
             Exit::ScriptRefused { line: _ } => 4,
             Exit::SourceFault => 5,
             Exit::SinkFault => 6,
+            Exit::JournalFault => 7,
+            Exit::Damaged { at_record: _ } => 8,
             Exit::OutOfMemory => 9,
+        }
+    }
+
+    /// The exit where the desk was not opened.
+    pub fn of_opening(fault: OpenFault) -> Exit
+        ensures { result ≡ exit_of_open fault }
+    {
+        match fault {
+            OpenFault::JournalFault => Exit::JournalFault,
+            OpenFault::Damaged { at_record } => Exit::Damaged { at_record },
+            OpenFault::OutOfMemory => Exit::OutOfMemory,
         }
     }
 }

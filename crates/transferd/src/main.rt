@@ -5,28 +5,22 @@
 //! What is here makes the real objects, calls it, says what went wrong, and ends with its status.
 #![tactic(auto)]
 
-mod command_line;
-mod document;
+mod ended;
 mod exit;
 mod laws;
-mod line;
 mod opening;
-mod present;
 mod printing;
-mod reading;
 mod real;
-mod request;
 mod running;
 mod script;
-mod submission;
-#[cfg(test)]
-mod submission_tests;
+mod serving;
 #[cfg(test)]
 mod tests;
 mod top;
 mod words;
 
 use exit::Exit;
+use gt_disk::MemDisk;
 use gt_streams::MemSource;
 use real::{ReaderSource, WriterSink};
 use std::alloc::{AllocError, Global};
@@ -57,7 +51,7 @@ fn command_words(rt: &(impl Env + Alloc<A = Global>)) -> Result<Vec<RcStr>, Allo
 }
 
 // The top call over the real objects: the setup is the file that the words name. Where the words are in another form it is
-// never read.
+// never read. The journal is in memory, so it ends with the process.
 fn run<F: Files + AllocGlobal + Eprint, R: Read + Drop, W: Write + Drop>(
     rt: &F,
     words: &[RcStr],
@@ -67,11 +61,14 @@ fn run<F: Files + AllocGlobal + Eprint, R: Read + Drop, W: Write + Drop>(
     let alloc = rt.alloc();
     let mut input = ReaderSource::new(input);
     let mut output = WriterSink::new(output);
+    let Ok(mut disk) = MemDisk::new(alloc, Vec::new(alloc), Vec::new(alloc)) else {
+        return Exit::OutOfMemory;
+    };
     match words {
         [_, setup] if are_script_words(words) => match fs::open(rt, setup.as_str()) {
             Ok(file) => {
                 let mut setup = ReaderSource::new(file);
-                script_top(alloc, words, &mut setup, &mut input, &mut output)
+                script_top(alloc, words, &mut setup, &mut input, &mut output, &mut disk)
             }
             Err(error) => {
                 let setup = setup.as_str();
@@ -81,7 +78,7 @@ fn run<F: Files + AllocGlobal + Eprint, R: Read + Drop, W: Write + Drop>(
         },
         _ => {
             let mut setup = MemSource::new(Vec::new(alloc), 1, Vec::new(alloc));
-            script_top(alloc, words, &mut setup, &mut input, &mut output)
+            script_top(alloc, words, &mut setup, &mut input, &mut output, &mut disk)
         }
     }
 }
@@ -105,6 +102,14 @@ fn tell<R: Eprint>(rt: &R, exit: &Exit) {
         }
         Exit::SourceFault => eprintln!(rt; "transferd: the setup or the script could not be read"),
         Exit::SinkFault => eprintln!(rt; "transferd: the output could not be written"),
+        Exit::JournalFault => eprintln!(rt;
+            "transferd: the journal failed while the desk was opened"
+        ),
+        Exit::Damaged { at_record } => {
+            eprintln!(rt;
+                "transferd: record {at_record} of the journal, counted from 0, is damaged"
+            )
+        }
         Exit::OutOfMemory => eprintln!(rt; "transferd: out of memory"),
     };
 }

@@ -1,35 +1,105 @@
+// What is printed: replies, tables of tasks, and the numbers of events of reopened desks.
 ghost use Rattle.gt_causes.specs.Causes.{Rose};
+ghost use Rattle.gt_machine.specs.TaskLine.{task_lines};
 ghost use Rattle.gt_types.specs.Reply.{is_printable};
-ghost use Rattle.std.specs.Prelude.{IfErr, IfOk, IsErr, IsTrue, OnOk, [], length, string_bytes, ◌++◌, ◌∷◌, ◌≡◌, ◌≤◌};
+ghost use Rattle.std.specs.Prelude.{IfOk, IsErrOf, IsTrue, [], length, string_bytes, ◌++◌, ◌∷◌, ◌≡◌, ◌≤◌};
 ghost use Rattle.transferd.specs.Output as spec;
-ghost use Rattle.transferd.specs.Output.{IsPart, table_text, task_text};
-ghost use Rattle.transferd.specs.declared.running.LineFault.TheVariants.{SinkFault};
+ghost use Rattle.transferd.specs.Output.{restart_text, table_text, task_text};
+ghost use Rattle.transferd.specs.Printing.{Prints, exit_of_print};
+ghost use Rattle.transferd.specs.declared.printing.PrintFault.TheVariants.{OutOfMemory};
 
-use crate::running::LineFault;
-use gt_machine::TaskLine;
+use crate::exit::Exit;
+use gt_machine::{State, TaskLine};
 use gt_replies::write_reply;
 use gt_setup::Setup;
 use gt_streams::{Sink, write_all};
 use gt_types::{Reply, Status};
 use std::alloc::{AllocError, Global};
 
-/// Writes the text.
-pub fn print<K: Sink>(out: &mut K, text: &[u8]) -> Result<(), LineFault>
-    ensures whole { OnOk result (IsTrue (K.is_told out.old) → K.taken out.new ≡ K.taken out.old ++ text.now) }
-    ensures part { IsErr result → IsTrue (K.is_told out.old) → IsPart text.now (K.taken out.old) (K.taken out.new) }
-    ensures exit { IfErr result (λ fault. fault ≡ SinkFault) }
-    ensures cause { IsErr result → Rose (K.faults_of out.old) (K.faults_of out.new) }
+/// Why a text was not printed whole.
+#[derive(Clone, Copy, Debug, PartialEq, Eq)]
+pub enum PrintFault {
+    /// The sink failed, and counted it. A part of the text may be written.
+    SinkFault,
+    /// Memory was wanted. Nothing of the text was written.
+    OutOfMemory,
+}
+
+impl PrintFault {
+    /// The exit of a run that ends with it.
+    pub fn exit(self) -> Exit
+        ensures { result ≡ exit_of_print self }
+    {
+        match self {
+            PrintFault::SinkFault => Exit::SinkFault,
+            PrintFault::OutOfMemory => Exit::OutOfMemory,
+        }
+    }
+}
+
+impl From<AllocError> for PrintFault {
+    ghost from_gives = { λ _ fault. fault ≡ OutOfMemory };
+
+    fn from(_: AllocError) -> PrintFault {
+        PrintFault::OutOfMemory
+    }
+}
+
+// Writes the text.
+fn print<K: Sink>(out: &mut K, text: &[u8]) -> Result<(), PrintFault>
+    ensures printed { Prints text.now (record { told = K.is_told out.old; before = K.taken out.old; after = K.taken out.new }) result }
+    ensures cause { IsErrOf result PrintFault.SinkFault → Rose (K.faults_of out.old) (K.faults_of out.new) }
     ensures later { K.faults_of out.old ≤ K.faults_of out.new }
     ensures told { K.is_told out.new ≡ K.is_told out.old }
 {
     match write_all(out, text) {
         Ok(()) => Ok(()),
-        Err(_) => Err(LineFault::SinkFault),
+        Err(_) => Err(PrintFault::SinkFault),
     }
 }
 
-/// The text of a reply: the line `reply STATUS LENGTH`, and the body on a line.
-pub fn reply_line(alloc: Global, setup: &Setup, reply: &Reply) -> Result<Vec<u8>, AllocError>
+/// Prints a reply: the line `reply STATUS LENGTH`, and the body on a line.
+pub fn print_reply<K: Sink>(
+    alloc: Global,
+    setup: &Setup,
+    reply: &Reply,
+    out: &mut K,
+) -> Result<(), PrintFault>
+    requires { IsTrue (is_printable (length setup.now.collections) reply.now) }
+    ensures printed { Prints (spec.reply_line setup.now reply.now) (record { told = K.is_told out.old; before = K.taken out.old; after = K.taken out.new }) result }
+    ensures cause { IsErrOf result PrintFault.SinkFault → Rose (K.faults_of out.old) (K.faults_of out.new) }
+    ensures later { K.faults_of out.old ≤ K.faults_of out.new }
+    ensures told { K.is_told out.new ≡ K.is_told out.old }
+{
+    let text = reply_line(alloc, setup, reply)?;
+    print(out, &text)
+}
+
+/// Prints the table of tasks: the line `end EVENTS TASKS`, and a line for each task.
+pub fn print_table<K: Sink>(alloc: Global, state: &State, out: &mut K) -> Result<(), PrintFault>
+    ensures printed { Prints (table_text state.now.machine.events (task_lines state.now.machine)) (record { told = K.is_told out.old; before = K.taken out.old; after = K.taken out.new }) result }
+    ensures cause { IsErrOf result PrintFault.SinkFault → Rose (K.faults_of out.old) (K.faults_of out.new) }
+    ensures later { K.faults_of out.old ≤ K.faults_of out.new }
+    ensures told { K.is_told out.new ≡ K.is_told out.old }
+{
+    let lines = state.task_lines(alloc)?;
+    let text = table(alloc, state.events(), &lines)?;
+    print(out, &text)
+}
+
+/// Prints the line `restart EVENTS`.
+pub fn print_restart<K: Sink>(alloc: Global, events: u64, out: &mut K) -> Result<(), PrintFault>
+    ensures printed { Prints (restart_text events) (record { told = K.is_told out.old; before = K.taken out.old; after = K.taken out.new }) result }
+    ensures cause { IsErrOf result PrintFault.SinkFault → Rose (K.faults_of out.old) (K.faults_of out.new) }
+    ensures later { K.faults_of out.old ≤ K.faults_of out.new }
+    ensures told { K.is_told out.new ≡ K.is_told out.old }
+{
+    let text = format!(in alloc; "restart {events}\n")?;
+    print(out, text.as_bytes())
+}
+
+// The text of a reply.
+fn reply_line(alloc: Global, setup: &Setup, reply: &Reply) -> Result<Vec<u8>, AllocError>
     requires { IsTrue (is_printable (length setup.now.collections) reply.now) }
     ensures { IfOk result (λ text. text.items ≡ spec.reply_line setup.now reply.now) }
 {
@@ -41,8 +111,8 @@ pub fn reply_line(alloc: Global, setup: &Setup, reply: &Reply) -> Result<Vec<u8>
     Ok(text)
 }
 
-/// The table of tasks after so many events: the line `end EVENTS TASKS`, and a line for each task.
-pub fn table(alloc: Global, events: u64, lines: &[TaskLine]) -> Result<Vec<u8>, AllocError>
+// The text of the table of tasks after so many events.
+fn table(alloc: Global, events: u64, lines: &[TaskLine]) -> Result<Vec<u8>, AllocError>
     ensures { IfOk result (λ text. text.items ≡ table_text events lines.now) }
 {
     let tasks = lines.len();

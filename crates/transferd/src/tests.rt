@@ -2,6 +2,7 @@ ghost use Rattle.std.specs.Prelude.{◌≤◌};
 
 use crate::exit::Exit;
 use crate::top::script_top;
+use gt_disk::{Disk, Keep, MemDisk};
 use gt_setup::SetupFault;
 use gt_streams::{MemSink, MemSource, Sink, Source, read_exactly};
 use gt_values::{Id, Text};
@@ -62,6 +63,25 @@ const ISSUED: &str = "reply 200 76
 {\"DATA_TYPE\":\"submission_id\",\"value\":\"00000007-0001-8000-8000-000000000001\"}
 ";
 
+const ISSUED_SECOND: &str = "reply 200 76
+{\"DATA_TYPE\":\"submission_id\",\"value\":\"00000007-0001-8000-8000-000000000002\"}
+";
+
+const FAILED: &str = "reply 503 75
+{\"DATA_TYPE\":\"error\",\"code\":\"JournalFault\",\"message\":\"The journal failed.\"}
+";
+
+const ONE_TASK: &str = "end 1 1\ntask 1 TRANSFER ACTIVE 1 1 0 0 0 0 0 0 0 0\n";
+
+const ISSUE: &str = "send abc GET /v0.10/submission_id 0\n\n";
+
+// The journal of one identifier that was issued to `ann` at the moment 100.
+const JOURNAL: &[u8; 35] = b"\x01\0\0\0\0\0\0\0\x19\
+    \x01\
+    \0\0\0\0\0\0\0d\
+    \0\0\0\0\0\0@\0\x80\0\0\0\0\0\0\xa1\
+    \0";
+
 // One text after another.
 fn joined(alloc: Global, texts: &[&str]) -> Result<Vec<u8>, AllocError> {
     let mut bytes = Vec::new(alloc);
@@ -85,14 +105,38 @@ fn source(alloc: Global, bytes: &[u8], piece: u32, fails: &[u64]) -> Result<MemS
     Ok(MemSource::new(bytes.to_vec(alloc)?, piece, fails.to_vec(alloc)?))
 }
 
-// A run of a script under a setup, over memory.
-fn run(alloc: Global, setup: &[u8], script: &[u8]) -> Result<(Exit, MemSink), Fail> {
+// A disk with these bytes, of which these calls fail. The opening of an empty file makes calls 1 to 4: a sync, the length,
+// a write and a sync. Each record makes four more: a write, a sync, the write of its first byte and a sync.
+fn disk(alloc: Global, bytes: &[u8], fails: &[u64]) -> Result<MemDisk, AllocError> {
+    MemDisk::new(alloc, bytes.to_vec(alloc)?, fails.to_vec(alloc)?)
+}
+
+fn contents<D: Disk>(alloc: Global, disk: &mut D) -> Result<Vec<u8>, Fail> {
+    let mut bytes = Vec::new(alloc);
+    bytes.resize(disk.len()? as usize, 0)?;
+    disk.read(0, &mut bytes)?;
+    Ok(bytes)
+}
+
+// A run of a script on a disk.
+fn run_on(
+    alloc: Global,
+    setup: &[u8],
+    script: &[u8],
+    disk: &mut MemDisk,
+) -> Result<(Exit, MemSink), Fail> {
     let words = words(alloc, &["script", "setup"])?;
     let mut setup = source(alloc, setup, 1000, &[])?;
     let mut script = source(alloc, script, 7, &[])?;
     let mut out = MemSink::new(alloc, 5, Vec::new(alloc));
-    let exit = script_top(alloc, &words, &mut setup, &mut script, &mut out);
+    let exit = script_top(alloc, &words, &mut setup, &mut script, &mut out, disk);
     Ok((exit, out))
+}
+
+// A run of a script on an empty disk.
+fn run(alloc: Global, setup: &[u8], script: &[u8]) -> Result<(Exit, MemSink), Fail> {
+    let mut disk = disk(alloc, &[], &[])?;
+    run_on(alloc, setup, script, &mut disk)
 }
 
 #[test]
@@ -100,18 +144,12 @@ fn submission_and_repeat(rt: HostRuntime) -> Result<(), Fail> {
     let alloc = rt.alloc();
     let words = words(alloc, &["script", "setup"])?;
     let lines = joined(alloc, &[ANN, DOCUMENT, "\n", ANN, DOCUMENT, "\nend\nend\n"])?;
-    let printed = joined(
-        alloc,
-        &[
-            ACCEPTED,
-            DUPLICATE,
-            "end 1 1\ntask 1 TRANSFER ACTIVE 1 1 0 0 0 0 0 0 0 0\n",
-        ],
-    )?;
+    let printed = joined(alloc, &[ACCEPTED, DUPLICATE, ONE_TASK])?;
     let mut setup = source(alloc, SETUP.as_bytes(), 4096, &[])?;
     let mut script = source(alloc, &lines, 4096, &[])?;
     let mut out = MemSink::new(alloc, 4096, Vec::new(alloc));
-    let exit = script_top(alloc, &words, &mut setup, &mut script, &mut out);
+    let mut disk = disk(alloc, &[], &[])?;
+    let exit = script_top(alloc, &words, &mut setup, &mut script, &mut out, &mut disk);
     assert!(rt; exit == Exit::Done);
     assert!(rt; out.bytes() == printed.as_slice());
     // Nothing behind the `end` line was read.
@@ -203,55 +241,6 @@ fn other_documents_are_refused_at_their_line(rt: HostRuntime) -> Result<(), Fail
 }
 
 #[test]
-fn other_lines_are_refused(rt: HostRuntime) -> Result<(), Fail> {
-    let alloc = rt.alloc();
-    let table: [&str; 36] = [
-        "",
-        "e",
-        "end",
-        "\n",
-        "end \n",
-        " end\n",
-        "End\n",
-        "end\r\n",
-        "restart\n",
-        "now\n",
-        "now \n",
-        "now  5\n",
-        "now 5 \n",
-        "now 05\n",
-        "now -1\n",
-        "now +1\n",
-        "now 253402300800\n",
-        "now 18446744073709551616\n",
-        "send abc GET /v0.10/submission_id 0\n",
-        "send abc GET /v0.10/submission_id 0\nx",
-        "send abc GET /v0.10/submission_id 0\nend\n",
-        "send abc GET /v0.10/submission_id 1\n\nend\n",
-        "send abc GET /v0.10/submission_id 00\n\n",
-        "send abc GET /v0.10/submission_id  0\n\n",
-        "send  abc GET /v0.10/submission_id 0\n\n",
-        "send abc  GET /v0.10/submission_id 0\n\n",
-        "send abc GET /v0.10/submission_id 0 \n\n",
-        "send abc GET /v0.10/submission_id\n\n",
-        "send abc GET /v0.10/submission_id?limit=1 0\n\n",
-        "send abc get /v0.10/submission_id 0\n\n",
-        "send abc POST /v0.10/submission_id 0\n\n",
-        "send abc GET /v0.10/task_list 0\n\n",
-        "send abc GET /v0.10/submission_id 8388609\n\n",
-        "send - GET /v0.10/submission_id 0\n\n",
-        "send abd GET /v0.10/submission_id 0\n\n",
-        "send  GET /v0.10/submission_id 0\n\n",
-    ];
-    for text in table {
-        let (exit, out) = run(alloc, SETUP.as_bytes(), text.as_bytes())?;
-        assert!(rt; exit == Exit::ScriptRefused { line: 1 });
-        assert!(rt; out.bytes().is_empty());
-    }
-    Ok(())
-}
-
-#[test]
 fn setup_faults_refuse_before_the_script(rt: HostRuntime) -> Result<(), Fail> {
     let alloc = rt.alloc();
     let long = vec![in alloc; b'#'; 1_048_600]?;
@@ -324,52 +313,181 @@ fn words_in_another_form_are_usage(rt: HostRuntime) -> Result<(), Fail> {
         let mut setup = source(alloc, SETUP.as_bytes(), 4096, &[])?;
         let mut script = source(alloc, b"end\n", 1, &[])?;
         let mut out = MemSink::new(alloc, 1, Vec::new(alloc));
-        let exit = script_top(alloc, &words, &mut setup, &mut script, &mut out);
+        let mut disk = disk(alloc, &[], &[])?;
+        let exit = script_top(alloc, &words, &mut setup, &mut script, &mut out, &mut disk);
         assert!(rt; exit.status() == status);
         assert!(rt; (out.bytes().len() == 8) == (status == 0));
+        assert!(rt; (disk.calls() == 4) == (status == 0));
+    }
+    Ok(())
+}
+
+// One identifier, and the end.
+const SHORT: &[u8] = b"send abc GET /v0.10/submission_id 1\nx\nend\n";
+
+#[test]
+fn a_failing_setup_ends_the_run(rt: HostRuntime) -> Result<(), Fail> {
+    let alloc = rt.alloc();
+    let words = words(alloc, &["script", "setup"])?;
+    // The setup comes in one piece, and then its end.
+    for call in 1..3u64 {
+        let mut setup = source(alloc, SETUP.as_bytes(), 4096, &[call])?;
+        let mut script = source(alloc, SHORT, 4096, &[])?;
+        let mut out = MemSink::new(alloc, 1, Vec::new(alloc));
+        let mut disk = disk(alloc, &[], &[])?;
+        let exit = script_top(alloc, &words, &mut setup, &mut script, &mut out, &mut disk);
+        assert!(rt; exit == Exit::SourceFault);
+        assert!(rt; exit.status() == 5);
+        assert!(rt; out.bytes().is_empty());
+        assert_eq!(rt; setup.faults(), 1);
+        assert_eq!(rt; disk.calls(), 0);
     }
     Ok(())
 }
 
 #[test]
-fn a_failing_source_or_sink_ends_the_run(rt: HostRuntime) -> Result<(), Fail> {
+fn a_failing_script_ends_the_run(rt: HostRuntime) -> Result<(), Fail> {
     let alloc = rt.alloc();
     let words = words(alloc, &["script", "setup"])?;
-    let text = b"send abc GET /v0.10/submission_id 1\nx\nend\n";
-    // The setup comes in one piece, and then its end.
-    for call in 1..3u64 {
-        let mut setup = source(alloc, SETUP.as_bytes(), 4096, &[call])?;
-        let mut script = source(alloc, text, 4096, &[])?;
-        let mut out = MemSink::new(alloc, 1, Vec::new(alloc));
-        let exit = script_top(alloc, &words, &mut setup, &mut script, &mut out);
-        assert!(rt; exit == Exit::SourceFault);
-        assert!(rt; exit.status() == 5);
-        assert!(rt; out.bytes().is_empty());
-        assert_eq!(rt; setup.faults(), 1);
-    }
     // A command line comes byte by byte, and a body at once.
     for call in 1..42u64 {
         let mut setup = source(alloc, SETUP.as_bytes(), 4096, &[])?;
-        let mut script = source(alloc, text, 4096, &[call])?;
+        let mut script = source(alloc, SHORT, 4096, &[call])?;
         let mut out = MemSink::new(alloc, 100, Vec::new(alloc));
-        let exit = script_top(alloc, &words, &mut setup, &mut script, &mut out);
+        let mut disk = disk(alloc, &[], &[])?;
+        let exit = script_top(alloc, &words, &mut setup, &mut script, &mut out, &mut disk);
         assert!(rt; exit == Exit::SourceFault);
         assert!(rt; out.bytes().is_empty() == (call < 38));
         assert!(rt; ISSUED.as_bytes().starts_with(out.bytes()));
         assert_eq!(rt; script.faults(), 1);
     }
+    Ok(())
+}
+
+#[test]
+fn a_failing_sink_ends_the_run(rt: HostRuntime) -> Result<(), Fail> {
+    let alloc = rt.alloc();
+    let words = words(alloc, &["script", "setup"])?;
     // The reply and the table have 98 bytes.
     let printed = joined(alloc, &[ISSUED, "end 1 0\n"])?;
     for call in 1..99u64 {
         let mut setup = source(alloc, SETUP.as_bytes(), 4096, &[])?;
-        let mut script = source(alloc, text, 4096, &[])?;
+        let mut script = source(alloc, SHORT, 4096, &[])?;
         let mut out = MemSink::new(alloc, 1, [call].to_vec(alloc)?);
-        let exit = script_top(alloc, &words, &mut setup, &mut script, &mut out);
+        let mut disk = disk(alloc, &[], &[])?;
+        let exit = script_top(alloc, &words, &mut setup, &mut script, &mut out, &mut disk);
         assert!(rt; exit == Exit::SinkFault);
         assert!(rt; exit.status() == 6);
         assert!(rt; out.bytes().len() as u64 + 1 == call);
         assert!(rt; printed.starts_with(out.bytes()));
         assert_eq!(rt; out.faults(), 1);
+    }
+    Ok(())
+}
+
+#[test]
+fn record_in_doubt_is_answered_again(rt: HostRuntime) -> Result<(), Fail> {
+    let alloc = rt.alloc();
+    let script = joined(alloc, &[ANN, DOCUMENT, "\n", ANN, DOCUMENT, "\nend\n"])?;
+    // The second sync of the record fails, so it is there all the same; or the first one, so it isn't.
+    for (call, again) in [(8, DUPLICATE), (6, ACCEPTED)] {
+        let mut disk = disk(alloc, &[], &[call])?;
+        let (exit, out) = run_on(alloc, SETUP.as_bytes(), &script, &mut disk)?;
+        let printed = joined(alloc, &[FAILED, again, ONE_TASK])?;
+        assert!(rt; exit == Exit::Done);
+        assert!(rt; out.bytes() == printed.as_slice());
+        assert_eq!(rt; disk.faults(), 1);
+    }
+    Ok(())
+}
+
+#[test]
+fn restart_counts_the_events(rt: HostRuntime) -> Result<(), Fail> {
+    let alloc = rt.alloc();
+    let script = joined(alloc, &[ISSUE, ISSUE, "restart\nend\n"])?;
+    let printed = joined(alloc, &[ISSUED, ISSUED_SECOND, "restart 2\nend 2 0\n"])?;
+    let (exit, out) = run(alloc, SETUP.as_bytes(), &script)?;
+    assert!(rt; exit == Exit::Done);
+    assert!(rt; out.bytes() == printed.as_slice());
+    Ok(())
+}
+
+#[test]
+fn journal_is_written_record_by_record(rt: HostRuntime) -> Result<(), Fail> {
+    let alloc = rt.alloc();
+    let script = joined(alloc, &["now 100\n", ISSUE, "end\n"])?;
+    let mut disk = disk(alloc, &[], &[])?;
+    let (exit, out) = run_on(alloc, SETUP.as_bytes(), &script, &mut disk)?;
+    assert!(rt; exit == Exit::Done);
+    assert!(rt; out.bytes().starts_with(ISSUED.as_bytes()));
+    assert_eq!(rt; contents(alloc, &mut disk)?.as_slice(), JOURNAL.as_slice());
+    Ok(())
+}
+
+#[test]
+fn journal_cut_at_each_byte(rt: HostRuntime) -> Result<(), Fail> {
+    let alloc = rt.alloc();
+    for cut in 0..36 {
+        let (exit, status, printed) = match cut {
+            0..=8 => (Exit::Done, 0, "end 0 0\n"),
+            9..=33 => (Exit::Damaged { at_record: 0 }, 8, ""),
+            _ => (Exit::Done, 0, "end 1 0\n"),
+        };
+        let mut disk = disk(alloc, &JOURNAL[..cut], &[])?;
+        let (ended, out) = run_on(alloc, SETUP.as_bytes(), b"end\n", &mut disk)?;
+        assert!(rt; ended == exit, "cut to {cut}");
+        assert_eq!(rt; ended.status(), status, "cut to {cut}");
+        assert!(rt; out.bytes() == printed.as_bytes(), "cut to {cut}");
+    }
+    Ok(())
+}
+
+#[test]
+fn opening_that_fails_ends_the_run(rt: HostRuntime) -> Result<(), Fail> {
+    let alloc = rt.alloc();
+    let words = words(alloc, &["script", "setup"])?;
+    for call in 1..5u64 {
+        let mut setup = source(alloc, SETUP.as_bytes(), 4096, &[])?;
+        let mut script = source(alloc, SHORT, 4096, &[])?;
+        let mut out = MemSink::new(alloc, 4096, Vec::new(alloc));
+        let mut disk = disk(alloc, &[], &[call])?;
+        let exit = script_top(alloc, &words, &mut setup, &mut script, &mut out, &mut disk);
+        assert!(rt; exit == Exit::JournalFault);
+        assert!(rt; exit.status() == 7);
+        assert!(rt; out.bytes().is_empty());
+        assert_eq!(rt; disk.faults(), 1);
+        // Nothing of the script was read.
+        let mut rest = Vec::new(alloc);
+        read_exactly(&mut script, SHORT.len() as u64, &mut rest)?;
+        assert!(rt; rest.as_slice() == SHORT);
+    }
+    Ok(())
+}
+
+#[test]
+fn restart_whose_opening_fails_ends_the_run(rt: HostRuntime) -> Result<(), Fail> {
+    let alloc = rt.alloc();
+    let script = joined(alloc, &[ISSUE, "restart\nend\n"])?;
+    let mut disk = disk(alloc, &[], &[9])?;
+    let (exit, out) = run_on(alloc, SETUP.as_bytes(), &script, &mut disk)?;
+    assert!(rt; exit == Exit::JournalFault);
+    assert!(rt; exit.status() == 7);
+    assert!(rt; out.bytes() == ISSUED.as_bytes());
+    assert_eq!(rt; disk.faults(), 1);
+    Ok(())
+}
+
+#[test]
+fn tasks_outlive_a_crash(rt: HostRuntime) -> Result<(), Fail> {
+    let alloc = rt.alloc();
+    let script = joined(alloc, &[ANN, DOCUMENT, "\nend\n"])?;
+    let mut disk = disk(alloc, &[], &[])?;
+    for reply in [ACCEPTED, DUPLICATE, DUPLICATE] {
+        let (exit, out) = run_on(alloc, SETUP.as_bytes(), &script, &mut disk)?;
+        let printed = joined(alloc, &[reply, ONE_TASK])?;
+        assert!(rt; exit == Exit::Done);
+        assert!(rt; out.bytes() == printed.as_slice());
+        disk = disk.crash(alloc, Keep::Synced)?;
     }
     Ok(())
 }

@@ -1,4 +1,4 @@
-ghost use Rattle.std.specs.Prelude.{length, ◌≡◌};
+ghost use Rattle.std.specs.Prelude.{◌≡◌};
 ghost use Rattle.transferd.specs.Words.{is_plain, is_script_form, texts_of};
 
 use std::rc::RcStr;

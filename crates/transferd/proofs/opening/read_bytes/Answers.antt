@@ -1,4 +1,3 @@
-use Rattle.std.proofs.Common.{refl}
 use Rattle.transferd.proofs.OpeningLemmas.{read_full, read_short}
 use Rattle.transferd.proofs.opening.read_bytes.Goals as goal
 

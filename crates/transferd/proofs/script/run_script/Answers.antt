@@ -1,184 +1,150 @@
-use Rattle.std.proofs.Common.{Err, IsTrue, [], ap, arith, refl, rules, subst, sym, true, ◌∙◌, ◌≡◌, ◌≢◌, ◌≤◌, ℕ}
-use Rattle.transferd.proofs.EndingLemmas.{begun, broke_off, done, gave_up, more, refused, stopped, took_line}
-use Rattle.transferd.proofs.FrontLemmas.{full_script}
+use Rattle.gt_script.proofs.FrontLemmas.{full_script}
+use Rattle.gt_script.specs.Reading.{BeginsNoLine, BeginsWith, Stops}
+use Rattle.gt_script.specs.Script.{most_script_bytes}
+use Rattle.gt_script.specs.declared.line.Line.TheVariants.{End}
+use Rattle.gt_script.specs.declared.line.ScriptFault.TheVariants.{Refused}
+use Rattle.gt_setup.specs.Setup.{Setup}
+use Rattle.std.proofs.Common.{Err, IsTrue, [], ap, arith, refl, subst, ◌+◌, ◌∙◌, ◌≡◌, ◌≢◌, ◌≤◌}
+use Rattle.transferd.proofs.EndingLemmas.{begun, carried, done, more, not_read, stopped}
 use Rattle.transferd.proofs.script.run_script.Goals as goal
 use Rattle.transferd.specs.Endings.{Bytes}
-use Rattle.transferd.specs.Progress.{RanLine, StoppedLine}
-use Rattle.transferd.specs.Reading.{BeginsWith}
+use Rattle.transferd.specs.Progress.{IsPresent, RanLine, StoppedLine}
 use Rattle.transferd.specs.Run.{world_at}
-use Rattle.transferd.specs.Script.{most_script_bytes}
-use Rattle.transferd.specs.World.{empty_world}
-use Rattle.transferd.specs.declared.line.Line.TheVariants.{End}
-use Rattle.transferd.specs.declared.line.ScriptFault.TheVariants.{Refused}
-use Rattle.transferd.specs.declared.running.LineFault.TheVariants.{OutOfMemory, SinkFault}
+use Rattle.transferd.specs.World.{World, world_on}
+use Rattle.transferd.specs.declared.exit.Exit.TheVariants.{ScriptRefused}
 
-pub returns-in-Err-Refused-clause-ran : goal.returns-in-Err-Refused-clause-ran
-returns-in-Err-Refused-clause-ran g c =
+pub loop-taken-init : goal.loop-taken-init
+loop-taken-init g c = record {
+  disk = omega arith;
+  source = omega arith;
+  sink = omega arith;
+  setup = refl;
+  honest = refl;
+  loan = refl;
+  told_in = refl;
+  told_out = refl;
+  number = omega arith;
+  fits = omega arith;
+  so_far = λ history runs same.
+      let d = g.D.Disk in
+      let desk = c.args.desk in
+      begun d.moment d.left_since d.seen d.may_leave d.faults_of (d.is_honest desk.disk) desk.setup desk c.zero-now.result history refl runs same c.requires.clear c.zero-now.ensures c.state.ensures.images (λ t f left. g.met.D.Disk.only_now desk.disk f t left)
+      (record { told = g.T.Source.is_told c.args.script.now; before = g.T.Source.left c.args.script.now; after = g.T.Source.left c.args.script.now })
+      (record { told = g.K.Sink.is_told c.args.out.now; before = g.K.Sink.taken c.args.out.now; after = g.K.Sink.taken c.args.out.now }) refl refl;
+}
+
+pub returns-in-Err-clause-ran : goal.returns-in-Err-clause-ran
+returns-in-Err-clause-ran g c history runs same =
+    let d = g.D.Disk in
     let l = c.loop-taken in
+    let first = c.args.desk in
+    let setup = first.setup in
+    let honest = d.is_honest first.disk in
+    let start = world_on history (d.faults_of first.disk) in
     let script : Bytes = record { told = g.T.Source.is_told c.args.script.now; before = g.T.Source.left c.args.script.now; after = g.T.Source.left l.script } in
     let out : Bytes = record { told = g.K.Sink.is_told c.args.out.now; before = g.K.Sink.taken c.args.out.now; after = g.K.Sink.taken l.out } in
-    let setup = c.args.setup.now in
-    let so_far = l.invariant.so_far in
+    let so_far = l.invariant.so_far history runs same in
     let after = g.T.Source.left c.read_script_line.new.script in
-    let is : c.read_script_line.result ≡ Err Refused = search rules in
-    let stops = rw c.in-Err-Refused.field-0-is at c.in-Err-Refused.ensures.stopped in
-    refused setup empty_world l.present l.ran l.taken script out so_far after l.invariant.fits (λ t. c.read_script_line.ensures.refused is (l.invariant.told_in ∙ t)) (λ t. stops (l.invariant.told_in ∙ t))
+    let fault = c.in-Err.fault in
+    let opened = c.setup.ensures ∙ l.invariant.setup in
+    let none : fault ≡ Refused → IsTrue script.told → BeginsNoLine setup l.taken script.after = λ e t. subst (λ (s : Setup). BeginsNoLine s l.taken script.after) opened (c.in-Err.ensures.refused (ap (λ f. Err f) e) (l.invariant.told_in ∙ t)) in
+    let stops : IsTrue script.told → Stops setup l.taken script.after after fault = λ t. subst (λ (s : Setup). Stops s l.taken script.after after fault) opened (c.in-Err.ensures.stopped (l.invariant.told_in ∙ t)) in
+    not_read d.moment d.left_since d.seen d.may_leave d.faults_of honest setup start first.disk l.ran l.desk l.now l.taken script out so_far after fault c.exit_of_reading.result c.disk_of.result c.exit_of_reading.ensures c.disk_of.ensures l.invariant.fits none stops
 
-pub returns-in-Err-SourceFault-clause-ran : goal.returns-in-Err-SourceFault-clause-ran
-returns-in-Err-SourceFault-clause-ran g c =
+pub returns-in-Err-run_line-clause-ran : goal.returns-in-Err-run_line-clause-ran
+returns-in-Err-run_line-clause-ran g c history runs same =
+    let d = g.D.Disk in
     let l = c.loop-taken in
+    let first = c.args.desk in
+    let setup = first.setup in
+    let honest = d.is_honest first.disk in
+    let start = world_on history (d.faults_of first.disk) in
     let script : Bytes = record { told = g.T.Source.is_told c.args.script.now; before = g.T.Source.left c.args.script.now; after = g.T.Source.left l.script } in
     let out : Bytes = record { told = g.K.Sink.is_told c.args.out.now; before = g.K.Sink.taken c.args.out.now; after = g.K.Sink.taken l.out } in
-    let setup = c.args.setup.now in
-    let so_far = l.invariant.so_far in
-    let after = g.T.Source.left c.read_script_line.new.script in
-    let stops = rw c.in-Err-SourceFault.field-0-is at c.in-Err-SourceFault.ensures.stopped in
-    broke_off setup empty_world l.present l.ran l.taken script out so_far after l.invariant.fits (λ t. stops (l.invariant.told_in ∙ t))
-
-pub returns-in-Err-OutOfMemory-clause-ran : goal.returns-in-Err-OutOfMemory-clause-ran
-returns-in-Err-OutOfMemory-clause-ran g c =
-    let l = c.loop-taken in
-    let script : Bytes = record { told = g.T.Source.is_told c.args.script.now; before = g.T.Source.left c.args.script.now; after = g.T.Source.left l.script } in
-    let out : Bytes = record { told = g.K.Sink.is_told c.args.out.now; before = g.K.Sink.taken c.args.out.now; after = g.K.Sink.taken l.out } in
-    let setup = c.args.setup.now in
-    let so_far = l.invariant.so_far in
-    let after = g.T.Source.left c.read_script_line.new.script in
-    let stops = rw c.in-Err-OutOfMemory.field-0-is at c.in-Err-OutOfMemory.ensures.stopped in
-    gave_up setup empty_world l.present l.ran l.taken script out so_far after l.invariant.fits (λ t. stops (l.invariant.told_in ∙ t)) out.after refl
-
-pub returns-in-Err-SinkFault-clause-ran : goal.returns-in-Err-SinkFault-clause-ran
-returns-in-Err-SinkFault-clause-ran g c =
-    let l = c.loop-taken in
-    let script : Bytes = record { told = g.T.Source.is_told c.args.script.now; before = g.T.Source.left c.args.script.now; after = g.T.Source.left l.script } in
-    let out : Bytes = record { told = g.K.Sink.is_told c.args.out.now; before = g.K.Sink.taken c.args.out.now; after = g.K.Sink.taken l.out } in
-    let setup = c.args.setup.now in
-    let so_far = l.invariant.so_far in
-    let after = g.T.Source.left c.read_script_line.new.script in
-    let written = g.K.Sink.taken c.run_line.new.out in
-    let line = c.in-Ok.line in
-    let through = c.read_script_line.new.taken in
-    let is : IsTrue script.told → BeginsWith setup line l.taken script.after after through = λ t. c.in-Ok.ensures.line (l.invariant.told_in ∙ t) in
-    let fault : c.run_line.result ≡ Err SinkFault = search rules in
-    let now = world_at empty_world so_far.run in
-    let stop = subst (λ b. StoppedLine setup line now c.run_line.new.present (record { told = b; before = out.after; after = written })) l.invariant.told_out (c.run_line.ensures.stopped fault now so_far.leads) in
-    stopped setup empty_world l.present l.ran l.taken script out so_far after line through is c.run_line.new.present written stop
-
-pub returns-in-Err-OutOfMemory-run_line-clause-ran : goal.returns-in-Err-OutOfMemory-run_line-clause-ran
-returns-in-Err-OutOfMemory-run_line-clause-ran g c =
-    let l = c.loop-taken in
-    let script : Bytes = record { told = g.T.Source.is_told c.args.script.now; before = g.T.Source.left c.args.script.now; after = g.T.Source.left l.script } in
-    let out : Bytes = record { told = g.K.Sink.is_told c.args.out.now; before = g.K.Sink.taken c.args.out.now; after = g.K.Sink.taken l.out } in
-    let setup = c.args.setup.now in
-    let so_far = l.invariant.so_far in
+    let so_far = l.invariant.so_far history runs same in
     let after = g.T.Source.left c.read_script_line.new.script in
     let written = g.K.Sink.taken c.run_line.new.out in
     let line = c.in-Ok.line in
     let through = c.read_script_line.new.taken in
-    let is : IsTrue script.told → BeginsWith setup line l.taken script.after after through = λ t. c.in-Ok.ensures.line (l.invariant.told_in ∙ t) in
-    let fault : c.run_line.result ≡ Err OutOfMemory = search rules in
-    gave_up setup empty_world l.present l.ran l.taken script out so_far after l.invariant.fits (took_line setup empty_world l.present l.ran l.taken script out so_far after line through is) written (c.run_line.ensures.gave_up fault)
+    let begins : IsTrue script.told → BeginsWith setup line l.taken script.after after through = λ t. subst (λ (s : Setup). BeginsWith s line l.taken script.after after through) (c.setup.ensures ∙ l.invariant.setup) (c.in-Ok.ensures.line (l.invariant.told_in ∙ t)) in
+    let ended = c.in-Err-run_line.ended in
+    let stop = carried
+    (λ h s told. (world : World) → IsPresent d.moment d.left_since d.may_leave d.faults_of h s world l.desk l.now
+    → StoppedLine d.moment d.left_since d.may_leave d.faults_of h ended.exit s line world l.desk.disk ended.disk (record { told = told; before = out.after; after = written }))
+    (d.is_honest l.desk.disk) honest l.desk.setup setup (g.K.Sink.is_told l.out) out.told l.invariant.honest l.invariant.setup l.invariant.told_out c.in-Err-run_line.ensures.stopped in
+    stopped d.moment d.left_since d.seen d.may_leave d.faults_of honest setup start first.disk l.ran l.desk l.now l.taken script out so_far after line through begins written ended.exit ended.disk (stop (world_at start so_far.run) so_far.leads)
 
-pub returns-then-is_end-clause-ran : goal.returns-then-is_end-clause-ran
-returns-then-is_end-clause-ran g c =
+pub returns-then-is_last-clause-ran : goal.returns-then-is_last-clause-ran
+returns-then-is_last-clause-ran g c history runs same =
+    let d = g.D.Disk in
     let l = c.loop-taken in
+    let first = c.args.desk in
+    let setup = first.setup in
+    let honest = d.is_honest first.disk in
+    let start = world_on history (d.faults_of first.disk) in
     let script : Bytes = record { told = g.T.Source.is_told c.args.script.now; before = g.T.Source.left c.args.script.now; after = g.T.Source.left l.script } in
     let out : Bytes = record { told = g.K.Sink.is_told c.args.out.now; before = g.K.Sink.taken c.args.out.now; after = g.K.Sink.taken l.out } in
-    let setup = c.args.setup.now in
-    let so_far = l.invariant.so_far in
+    let so_far = l.invariant.so_far history runs same in
     let after = g.T.Source.left c.read_script_line.new.script in
     let written = g.K.Sink.taken c.run_line.new.out in
     let line = c.in-Ok.line in
     let through = c.read_script_line.new.taken in
-    let is : IsTrue script.told → BeginsWith setup line l.taken script.after after through = λ t. c.in-Ok.ensures.line (l.invariant.told_in ∙ t) in
-    let now = world_at empty_world so_far.run in
-    let ran = subst (λ b. RanLine setup line now c.run_line.new.present (record { told = b; before = out.after; after = written })) l.invariant.told_out (c.in-Ok-run_line.ensures.ran now so_far.leads) in
-    let end : line ≡ End = c.is_end.ensures.0 c.if-is_end.true in
-    done setup empty_world l.present l.ran l.taken script out so_far after line through is c.run_line.new.present written ran end
+    let begins : IsTrue script.told → BeginsWith setup line l.taken script.after after through = λ t. subst (λ (s : Setup). BeginsWith s line l.taken script.after after through) (c.setup.ensures ∙ l.invariant.setup) (c.in-Ok.ensures.line (l.invariant.told_in ∙ t)) in
+    let next = c.in-Ok-run_line.next in
+    let later = c.run_line.new.now in
+    let ran = carried
+    (λ h s told. (world : World) → IsPresent d.moment d.left_since d.may_leave d.faults_of h s world l.desk l.now
+    → RanLine d.moment d.left_since d.may_leave d.faults_of h s line world l.desk.disk next later (record { told = told; before = out.after; after = written }))
+    (d.is_honest l.desk.disk) honest l.desk.setup setup (g.K.Sink.is_told l.out) out.told l.invariant.honest l.invariant.setup l.invariant.told_out c.in-Ok-run_line.ensures.ran in
+    done d.moment d.left_since d.seen d.may_leave d.faults_of honest setup start first.disk l.ran l.desk l.now l.taken script out so_far after line through begins written next later (ran (world_at start so_far.run) so_far.leads) (c.is_last.ensures.0 c.if-is_last.true) c.disk_of-then-is_last.result c.disk_of-then-is_last.ensures
 
 pub loop-taken-preserved : goal.loop-taken-preserved
-loop-taken-preserved g c =
-    let l = c.loop-taken in
-    let script : Bytes = record { told = g.T.Source.is_told c.args.script.now; before = g.T.Source.left c.args.script.now; after = g.T.Source.left l.script } in
-    let out : Bytes = record { told = g.K.Sink.is_told c.args.out.now; before = g.K.Sink.taken c.args.out.now; after = g.K.Sink.taken l.out } in
-    let setup = c.args.setup.now in
-    let so_far = l.invariant.so_far in
-    let after = g.T.Source.left c.read_script_line.new.script in
-    let written = g.K.Sink.taken c.run_line.new.out in
-    let line = c.in-Ok.line in
-    let through = c.read_script_line.new.taken in
-    let is : IsTrue script.told → BeginsWith setup line l.taken script.after after through = λ t. c.in-Ok.ensures.line (l.invariant.told_in ∙ t) in
-    let now = world_at empty_world so_far.run in
-    let ran = subst (λ b. RanLine setup line now c.run_line.new.present (record { told = b; before = out.after; after = written })) l.invariant.told_out (c.in-Ok-run_line.ensures.ran now so_far.leads) in
-    let other : line ≢ End = λ e. let no : ⊥ = cc (c.is_end.ensures.1 e, c.if-is_end.false) in no in
-    record {
-      source = omega (arith, l.invariant.source, c.read_script_line.ensures.later);
-      sink = omega (arith, l.invariant.sink, c.run_line.ensures.later);
-      told_in = c.read_script_line.ensures.told ∙ l.invariant.told_in;
-      told_out = c.run_line.ensures.told ∙ l.invariant.told_out;
-      number = omega (arith, l.invariant.number, c.in-Ok.ensures.counted);
-      fits = omega (arith, c.in-Ok.ensures.counted);
-      events = omega (arith, l.invariant.events, c.in-Ok-run_line.ensures.counted);
-      so_far = more setup empty_world l.present l.ran l.taken script out so_far after line through is c.run_line.new.present written ran other;
-    }
-
-pub loop-taken-preserved-else-is_end : goal.loop-taken-preserved-else-is_end
-loop-taken-preserved-else-is_end g c =
-    let l = c.loop-taken in
-    let script : Bytes = record { told = g.T.Source.is_told c.args.script.now; before = g.T.Source.left c.args.script.now; after = g.T.Source.left l.script } in
-    let out : Bytes = record { told = g.K.Sink.is_told c.args.out.now; before = g.K.Sink.taken c.args.out.now; after = g.K.Sink.taken l.out } in
-    let setup = c.args.setup.now in
-    let so_far = l.invariant.so_far in
-    let after = g.T.Source.left c.read_script_line.new.script in
-    let written = g.K.Sink.taken c.run_line.new.out in
-    let line = c.in-Ok.line in
-    let through = c.read_script_line.new.taken in
-    let is : IsTrue script.told → BeginsWith setup line l.taken script.after after through = λ t. c.in-Ok.ensures.line (l.invariant.told_in ∙ t) in
-    let now = world_at empty_world so_far.run in
-    let ran = subst (λ b. RanLine setup line now c.run_line.new.present (record { told = b; before = out.after; after = written })) l.invariant.told_out (c.in-Ok-run_line.ensures.ran now so_far.leads) in
-    let other : line ≢ End = λ e. let no : ⊥ = cc (c.is_end.ensures.1 e, c.if-is_end.false) in no in
-    record {
-      source = omega (arith, l.invariant.source, c.read_script_line.ensures.later);
-      sink = omega (arith, l.invariant.sink, c.run_line.ensures.later);
-      told_in = c.read_script_line.ensures.told ∙ l.invariant.told_in;
-      told_out = c.run_line.ensures.told ∙ l.invariant.told_out;
-      number = omega (arith, l.invariant.number, c.in-Ok.ensures.counted);
-      fits = omega (arith, c.in-Ok.ensures.counted);
-      events = omega (arith, l.invariant.events, c.in-Ok-run_line.ensures.counted);
-      so_far = more setup empty_world l.present l.ran l.taken script out so_far after line through is c.run_line.new.present written ran other;
-    }
-
-pub loop-taken-preserved-else-is_end-3 : goal.loop-taken-preserved-else-is_end-3
-loop-taken-preserved-else-is_end-3 g c =
-    let l = c.loop-taken in
-    let script : Bytes = record { told = g.T.Source.is_told c.args.script.now; before = g.T.Source.left c.args.script.now; after = g.T.Source.left l.script } in
-    let out : Bytes = record { told = g.K.Sink.is_told c.args.out.now; before = g.K.Sink.taken c.args.out.now; after = g.K.Sink.taken l.out } in
-    let setup = c.args.setup.now in
-    let so_far = l.invariant.so_far in
-    let after = g.T.Source.left c.read_script_line.new.script in
-    let written = g.K.Sink.taken c.run_line.new.out in
-    let line = c.in-Ok.line in
-    let through = c.read_script_line.new.taken in
-    let is : IsTrue script.told → BeginsWith setup line l.taken script.after after through = λ t. c.in-Ok.ensures.line (l.invariant.told_in ∙ t) in
-    let now = world_at empty_world so_far.run in
-    let ran = subst (λ b. RanLine setup line now c.run_line.new.present (record { told = b; before = out.after; after = written })) l.invariant.told_out (c.in-Ok-run_line.ensures.ran now so_far.leads) in
-    let other : line ≢ End = λ e. let no : ⊥ = cc (c.is_end.ensures.1 e, c.if-is_end.false) in no in
-    record {
-      source = omega (arith, l.invariant.source, c.read_script_line.ensures.later);
-      sink = omega (arith, l.invariant.sink, c.run_line.ensures.later);
-      told_in = c.read_script_line.ensures.told ∙ l.invariant.told_in;
-      told_out = c.run_line.ensures.told ∙ l.invariant.told_out;
-      number = omega (arith, l.invariant.number, c.in-Ok.ensures.counted);
-      fits = omega (arith, c.in-Ok.ensures.counted);
-      events = omega (arith, l.invariant.events, c.in-Ok-run_line.ensures.counted);
-      so_far = more setup empty_world l.present l.ran l.taken script out so_far after line through is c.run_line.new.present written ran other;
-    }
+loop-taken-preserved g c = record {
+  disk = omega (arith, c.loop-taken.invariant.disk, c.in-Ok-run_line.ensures.later);
+  source = omega (arith, c.loop-taken.invariant.source, c.read_script_line.ensures.later);
+  sink = omega (arith, c.loop-taken.invariant.sink, c.run_line.ensures.later_out);
+  setup = c.in-Ok-run_line.ensures.setup ∙ c.loop-taken.invariant.setup;
+  honest = c.in-Ok-run_line.ensures.honest ∙ c.loop-taken.invariant.honest;
+  loan = c.in-Ok-run_line.ensures.loan ∙ c.loop-taken.invariant.loan;
+  told_in = c.read_script_line.ensures.told ∙ c.loop-taken.invariant.told_in;
+  told_out = c.run_line.ensures.told ∙ c.loop-taken.invariant.told_out;
+  number = omega (arith, c.loop-taken.invariant.number, c.in-Ok.ensures.counted);
+  fits = omega (arith, c.in-Ok.ensures.counted);
+  so_far = λ history runs same.
+      let d = g.D.Disk in
+      let l = c.loop-taken in
+      let first = c.args.desk in
+      let setup = first.setup in
+      let honest = d.is_honest first.disk in
+      let start = world_on history (d.faults_of first.disk) in
+      let script : Bytes = record { told = g.T.Source.is_told c.args.script.now; before = g.T.Source.left c.args.script.now; after = g.T.Source.left l.script } in
+      let out : Bytes = record { told = g.K.Sink.is_told c.args.out.now; before = g.K.Sink.taken c.args.out.now; after = g.K.Sink.taken l.out } in
+      let so_far = l.invariant.so_far history runs same in
+      let after = g.T.Source.left c.read_script_line.new.script in
+      let written = g.K.Sink.taken c.run_line.new.out in
+      let line = c.in-Ok.line in
+      let through = c.read_script_line.new.taken in
+      let begins : IsTrue script.told → BeginsWith setup line l.taken script.after after through = λ t. subst (λ (s : Setup). BeginsWith s line l.taken script.after after through) (c.setup.ensures ∙ l.invariant.setup) (c.in-Ok.ensures.line (l.invariant.told_in ∙ t)) in
+      let next = c.in-Ok-run_line.next in
+      let later = c.run_line.new.now in
+      let ran = carried
+      (λ h s told. (world : World) → IsPresent d.moment d.left_since d.may_leave d.faults_of h s world l.desk l.now
+      → RanLine d.moment d.left_since d.may_leave d.faults_of h s line world l.desk.disk next later (record { told = told; before = out.after; after = written }))
+      (d.is_honest l.desk.disk) honest l.desk.setup setup (g.K.Sink.is_told l.out) out.told l.invariant.honest l.invariant.setup l.invariant.told_out c.in-Ok-run_line.ensures.ran in
+      let other : line ≢ End = λ e. let never : ⊥ = cc (c.is_last.ensures.1 e, c.if-is_last.false) in never in
+      more d.moment d.left_since d.seen d.may_leave d.faults_of honest setup start first.disk l.ran l.desk l.now l.taken script out so_far after line through begins written next later (ran (world_at start so_far.run) so_far.leads) other;
+}
 
 pub returns-clause-ran : goal.returns-clause-ran
-returns-clause-ran g c =
+returns-clause-ran g c history runs same =
+    let d = g.D.Disk in
     let l = c.loop-taken in
+    let first = c.args.desk in
+    let setup = first.setup in
+    let honest = d.is_honest first.disk in
+    let start = world_on history (d.faults_of first.disk) in
     let script : Bytes = record { told = g.T.Source.is_told c.args.script.now; before = g.T.Source.left c.args.script.now; after = g.T.Source.left l.script } in
     let out : Bytes = record { told = g.K.Sink.is_told c.args.out.now; before = g.K.Sink.taken c.args.out.now; after = g.K.Sink.taken l.out } in
-    let setup = c.args.setup.now in
+    let so_far = l.invariant.so_far history runs same in
     let full : most_script_bytes ≤ l.taken = omega arith in
-    refused setup empty_world l.present l.ran l.taken script out l.invariant.so_far script.after l.invariant.fits (λ t. full_script setup l.taken script.after full)
-    (λ t. record { gone = []; whole = refl; unfinished = full_script setup l.taken [] full })
+    not_read d.moment d.left_since d.seen d.may_leave d.faults_of honest setup start first.disk l.ran l.desk l.now l.taken script out so_far script.after Refused (ScriptRefused (l.ran + 1)) c.disk_of-2.result refl c.disk_of-2.ensures l.invariant.fits (λ e t. full_script setup l.taken script.after full) (λ t. record { gone = []; whole = refl; unfinished = full_script setup l.taken [] full })

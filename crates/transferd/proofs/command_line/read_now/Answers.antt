@@ -1,7 +1,0 @@
-use Rattle.std.proofs.Common.{arith, sym, ◌∙◌}
-use Rattle.transferd.proofs.CommandLemmas.{moment_there}
-use Rattle.transferd.proofs.command_line.read_now.Goals as goal
-
-pub returns-in-None-clause-none : goal.returns-in-None-clause-none
-returns-in-None-clause-none c none moment is e =
-    moment_there c.in_ok-number.number moment c.of.result (omega arith) (sym c.in_ok-number.ensures.some ∙ e) is c.of.ensures c.in-None.is
