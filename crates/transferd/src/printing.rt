@@ -2,7 +2,7 @@
 ghost use Rattle.gt_causes.specs.Causes.{Rose};
 ghost use Rattle.gt_machine.specs.TaskLine.{task_lines};
 ghost use Rattle.gt_types.specs.Reply.{is_printable};
-ghost use Rattle.std.specs.Prelude.{IfOk, IsErrOf, IsTrue, [], length, string_bytes, ◌++◌, ◌∷◌, ◌≡◌, ◌≤◌};
+ghost use Rattle.std.specs.Prelude.{IfOk, IsErrOf, IsTrue, [], length, string_bytes, ◌∷◌, ◌≡◌, ◌≤◌};
 ghost use Rattle.transferd.specs.Output as spec;
 ghost use Rattle.transferd.specs.Output.{restart_text, table_text, task_text};
 ghost use Rattle.transferd.specs.Printing.{Prints, exit_of_print};

@@ -2,7 +2,7 @@
 ghost use Rattle.gt_causes.specs.Causes.{Rose};
 ghost use Rattle.gt_script.specs.Reading.{IsGoodLine};
 ghost use Rattle.gt_script.specs.declared.line.Line.TheVariants.{End, Restart, Send};
-ghost use Rattle.std.specs.Prelude.{IfErr, IfOk, IsTrue, ◌≡◌, ◌≤◌};
+ghost use Rattle.std.specs.Prelude.{IfErr, IfOk, ◌≡◌, ◌≤◌};
 ghost use Rattle.transferd.specs.Progress.{IsPresent, RanLine, StoppedLine};
 ghost use Rattle.transferd.specs.Printing.{IsGoingOn};
 ghost use Rattle.transferd.specs.World.{World};
