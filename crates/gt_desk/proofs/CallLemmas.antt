@@ -24,11 +24,11 @@ pub begins_more : (old mid new more : List Event) → Begins old mid → new ≡
 begins_more old mid new more (before, is) longer =
     (before ++ more, longer ∙ ap (λ (events : List Event). events ++ more) is ∙ append_assoc old before more)
 
-begins_settled : (doubt : Option Event) (old new : List Event) → IsSettled doubt old new → Begins old new
+pub begins_settled : (doubt : Option Event) (old new : List Event) → IsSettled doubt old new → Begins old new
 begins_settled None old new same = begins_same old new same
 begins_settled (Some event) old new settles = ⊎_elim (λ same. begins_same old new same) (λ more. (event ∷ [], more)) settles
 
-begins_call : (setup : Setup) (identity : List ℕ) (command : Command) (now : ℕ) (old : Ledger) (result : Result Reply DeskFault) (new : Ledger)
+pub begins_call : (setup : Setup) (identity : List ℕ) (command : Command) (now : ℕ) (old : Ledger) (result : Result Reply DeskFault) (new : Ledger)
     → DeskCall setup identity command now old result new → Begins old.history new.history
 begins_call setup identity command now old (Ok reply) new call =
     begins_more old.history call.settled new.history (events_in (answer_of setup call.machine identity command now))

@@ -7,3 +7,4 @@ pub mod OpeningLemmas
 pub mod ServingLemmas
 pub mod LentLemmas
 pub mod ExitLemmas
+pub mod StayingLemmas

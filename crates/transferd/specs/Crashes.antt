@@ -2,7 +2,7 @@
 use Rattle.gt_desk.specs.History.{Stands, StandsDuring}
 use Rattle.gt_disk.specs.Disk.{LeavesOnly}
 use Rattle.gt_setup.specs.Setup.{Setup}
-use Rattle.std.specs.Prelude.{List, [], ◌∷◌, ℕ}
+use Rattle.std.specs.Prelude.{List, [], ◌∷◌, ◌≡◌, ℕ}
 use Rattle.transferd.specs.World.{Taken, World}
 
 -- The disk goes from state to state with the steps. From a step's beginning to its end a crash leaves a file that stands for
@@ -12,3 +12,9 @@ abbrev pub CrashesKeep : {D : Type 0} → (D → ℕ) → (D → ℕ → List �
 CrashesKeep moment left_since setup disk world [] last = LeavesOnly moment left_since disk last (Stands setup world.ledger)
 CrashesKeep {D} moment left_since setup disk world (taken ∷ rest) last =
     (next : D) × LeavesOnly moment left_since disk next (StandsDuring setup world.ledger taken.world.ledger) × CrashesKeep moment left_since setup next taken.world rest last
+
+-- the same, up to the disk right behind the last step
+abbrev pub CrashesUpTo : {D : Type 0} → (D → ℕ) → (D → ℕ → List ℕ → Type 0) → Setup → D → World → List Taken → D → Type 0
+CrashesUpTo moment left_since setup disk world [] last = disk ≡ last
+CrashesUpTo {D} moment left_since setup disk world (taken ∷ rest) last =
+    (next : D) × LeavesOnly moment left_since disk next (StandsDuring setup world.ledger taken.world.ledger) × CrashesUpTo moment left_since setup next taken.world rest last
