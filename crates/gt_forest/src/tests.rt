@@ -32,6 +32,35 @@ fn suite_finds_nothing_wrong(rt: HostRuntime) -> Result<(), Fail> {
 }
 
 #[test]
+fn suite_finds_wrong_bytes_and_denied_paths(rt: HostRuntime) -> Result<(), Fail> {
+    let alloc = rt.alloc();
+    // The appends of the bytes that the suite reads back.
+    for append in 3..5 {
+        let mut forest = made(alloc, &[], &[append])?;
+        if forest.collections() != 2 {
+            return Ok(());
+        }
+        let found = forest_suite(alloc, &mut forest);
+        assert!(rt;
+            matches!(found, Err(SuiteFault::OtherAnswer { .. })),
+            "append {append}"
+        );
+    }
+    let root = Path::root(alloc);
+    let denied = vec![in alloc; (0, root)]?;
+    let mut forest = MemForest::new(alloc, 2, denied, Vec::new(alloc), Vec::new(alloc))?;
+    if forest.collections() != 2 {
+        return Ok(());
+    }
+    let found = forest_suite(alloc, &mut forest);
+    assert!(rt;
+        matches!(found, Err(SuiteFault::OtherAnswer { .. })),
+        "all is denied"
+    );
+    Ok(())
+}
+
+#[test]
 fn each_listed_call_fails(rt: HostRuntime) -> Result<(), Fail> {
     let alloc = rt.alloc();
     let mut whole = made(alloc, &[], &[])?;
