@@ -1,8 +1,8 @@
 -- What is found in a setup is in it.
-use Rattle.gt_setup.specs.Setup.{Setup, has_identity, identity_of, is_identity, who_of}
+use Rattle.gt_setup.specs.Setup.{Setup, has_identity, identity_of, is_identity}
 use Rattle.gt_setup.specs.declared.parts.Identity.{Identity}
 use Rattle.gt_types.specs.declared.rule.Who.{Who}
-use Rattle.std.proofs.Common.{Bool, List, Option, Some, [], ap, cond, false, find, is_some, option_map, refl, sym, true, ◌∙◌, ◌∷◌, ◌≡◌, ℕ}
+use Rattle.std.proofs.Common.{Bool, List, Option, Some, [], ap, cond, false, find, is_some, option_map, refl, true, ◌∷◌, ◌≡◌, ℕ}
 use Rattle.std.proofs.lemmas.Slice.Eq.{bytes_eq-Decides}
 
 -- whom an identity stands for, if it is one
@@ -31,16 +31,3 @@ found_in test (x ∷ identities) who e =
 -- a caller that a token names
 pub caller_known : (setup : Setup) (token : List ℕ) (who : Who) → identity_of setup token ≡ Some who → has_identity setup who.identity ≡ true
 caller_known setup token who e = found_in _ setup.identities who e
-
--- the identity itself
-pub who_known : (setup : Setup) (identity : List ℕ) (who : Who) → who_of setup identity ≡ Some who → has_identity setup who.identity ≡ true
-who_known setup identity who e = found_in (is_identity identity) setup.identities who e
-
--- it is the one that was asked for
-pub who_is : (test : List ℕ) (identities : List Identity) (who : Who) → who_in (find (is_identity test) identities) ≡ Some who → who.identity ≡ test
-who_is test [] who e = let no : ⊥ = cc in absurd no
-who_is test (x ∷ identities) who e =
-    elim (is_identity test x) as (λ b. is_identity test x ≡ b → who_in (cond b (Some x) (find (is_identity test) identities)) ≡ Some who → who.identity ≡ test) [
-      | true ↦ λ is h. sym (ap (λ (w : Who). w.identity) (same_who x who h)) ∙ (bytes_eq-Decides x.who.identity test).0 is
-      | false ↦ λ is h. who_is test identities who h
-    ] refl e
