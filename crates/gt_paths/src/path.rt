@@ -1,6 +1,7 @@
 ghost use Rattle.std.specs.Prelude.{◌≡◌, ◌≤◌, ◌↔◌, ◌⊎◌, ◌++◌, [], length, IfErr, IfOk, IsTrue, None, OnOk, string_bytes};
 ghost use Rattle.gt_paths.specs.Path.{PathValue, IsUnder, below, child_path, is_path, is_under, overlaps, printed_path, slashed};
 ghost use Rattle.gt_paths.specs.PathText.{limited, read_path};
+ghost use Rattle.gt_values.specs.Results.{FaultsAs};
 
 mod order;
 
@@ -64,7 +65,7 @@ impl Path {
 
         // Each text has one answer, and it is given unless memory runs out.
         ensures ok { IfOk result (λ path. read_path home.now text.now ≡ Ok path) }
-        ensures fault { IfErr result (λ fault. (fault ≡ PathFault.OutOfMemory) ⊎ (read_path home.now text.now ≡ Err fault)) }
+        ensures fault { FaultsAs PathFault.OutOfMemory (read_path home.now text.now) result }
     {
         let Some(rest) = text.strip_prefix('/') else {
             return Err(PathFault::NotAbsolute);
@@ -154,7 +155,7 @@ impl Path {
     pub fn child(&self, alloc: Global, name: &Name) -> Result<Path, PathFault>
         ensures path { IfOk result (λ path. IsTrue (is_path path)) }
         ensures ok { IfOk result (λ path. path ≡ child_path self.now name.now) }
-        ensures fault { IfErr result (λ fault. (fault ≡ PathFault.OutOfMemory) ⊎ (limited (child_path self.now name.now) ≡ Err fault)) }
+        ensures fault { FaultsAs PathFault.OutOfMemory (limited (child_path self.now name.now)) result }
     {
         let mut draft = Draft::new(alloc);
         draft.extend(alloc, &self.names)?;
@@ -167,7 +168,7 @@ impl Path {
         requires { IsTrue (is_under self.now from.now) }
         ensures path { IfOk result (λ path. IsTrue (is_path path)) }
         ensures ok { IfOk result (λ path. path ≡ to.now ++ below self.now from.now) }
-        ensures fault { IfErr result (λ fault. (fault ≡ PathFault.OutOfMemory) ⊎ (limited (to.now ++ below self.now from.now) ≡ Err fault)) }
+        ensures fault { FaultsAs PathFault.OutOfMemory (limited (to.now ++ below self.now from.now)) result }
     {
         let mut draft = Draft::new(alloc);
         draft.extend(alloc, &to.names)?;

@@ -1,24 +1,25 @@
 -- Events are read as they are written, so no text stands for two.
-use Rattle.std.proofs.Common.{◌≡◌, ℕ, ◌^◌, Bool, true, false, ◌&&◌, cond, eqb, ltb, List, [], ◌++◌, length, Some, None, refl, sym, ap, subst, ◌∙◌, append_assoc, inl, inr}
+use Rattle.std.proofs.Common.{◌≡◌, ℕ, ◌^◌, Bool, true, false, ◌&&◌, cond, eqb, ltb, List, [], ◌++◌, length, Some, None, refl, sym, ap, subst, ◌∙◌, append_assoc, true≢false}
 use Rattle.std.proofs.lemmas.Bool.{and_from, and_parts, eqb-true}
 use Rattle.std.proofs.lemmas.List.{append-nil, nil_from_length}
 use Rattle.gt_records.specs.Fields.{id_text, moment_text}
-use Rattle.gt_records.specs.Reading.{boolean_at, id_at, moment_at, number_at, ◌⊗◌}
-use Rattle.gt_records.specs.ReadingEvents.{access_spec_at, event_at, event_of, happening_at, tagged_at, transfer_spec_at}
+use Rattle.gt_records.specs.Reading.{boolean_at, id_at, mapped, moment_at, number_at, ◌⊗◌}
+use Rattle.gt_records.specs.ReadingEvents.{access_spec_at, event_at, event_of, happening_at, happening_forms, tagged_at, transfer_spec_at}
 use Rattle.gt_records.specs.RecordText.{fields_text, record_text, tag_of, transfer_spec_text}
 use Rattle.gt_records.proofs.FieldLaws.{boolean_reads, id_reads, moment_reads, u32_reads, u64_reads}
-use Rattle.gt_records.proofs.Laws.{Follows, IsBytes, Reads, Reads-as, Reads-both, Reads-led, Takes, Takes-then, bind_some, byte_reads, chosen, guard_some, mapped_again, mapped_takes, some_is}
+use Rattle.gt_records.proofs.FormLaws.{FormTakes, FormsTake, forms_take, made_form}
+use Rattle.gt_records.proofs.Laws.{Follows, IsBytes, Reads, Reads-as, Reads-both, Reads-led, Takes, Takes-then, bind_some, byte_reads, guard_some, mapped_again, some_is}
 use Rattle.gt_records.proofs.LimitLaws.{same_answer}
 use Rattle.gt_records.proofs.SpecLaws.{access_spec_reads, is_spec, transfer_spec_reads}
 use Rattle.gt_types.specs.declared.event.Event.{Event}
 use Rattle.gt_types.specs.declared.event.Happening.{Happening}
-use Rattle.gt_types.specs.declared.event.Happening.TheVariants.{AccessAdd, AccessEnd, AccessReplace, Issue, SubmitTransfer}
+use Rattle.gt_types.specs.declared.event.Happening.TheVariants.{AccessAdd, AccessEnd, AccessReplace, Cancel, GrantItem, Issue, PauseAdd, PauseEnd, RefuseItem, ReportItem, Restart, SubmitDelete, SubmitTransfer, Sweep, Update}
 use Rattle.gt_types.specs.declared.rule.AccessSpec.{AccessSpec}
 use Rattle.gt_types.specs.declared.spec.TransferSpec.{TransferSpec}
 use Rattle.gt_types.specs.Event.{has_collections, is_recordable, is_recordable_happening, recordable_collections}
 use Rattle.gt_types.specs.SpecForms.{is_transfer_spec}
 use Rattle.gt_values.specs.Forms.{is_id, is_moment, is_u64}
-use Rattle.gt_values.specs.Grammar.{◌>>=◌}
+use Rattle.gt_values.specs.Grammar.{Read, ◌>>=◌}
 use Rattle.std.specs.Int.{w32, w64}
 
 -- what happens within its limits, with collections that four bytes hold
@@ -71,29 +72,33 @@ replacement_reads =
 
 -- ---- what happens, by its tag
 
+happens : {A : Type 0} {reader : List ℕ → Read A} (tag : ℕ) (make : A → Happening) → Reads reader (λ a. fields_text (make a)) (λ a. is_recorded (make a))
+    → ((a : A) → tag_of (make a) ≡ tag) → FormTakes tag_of fields_text is_recorded (record { number = tag; reader = mapped make reader })
+happens tag make reads is = made_form tag_of fields_text is_recorded tag make reads is
+
+happening_forms_take : FormsTake tag_of fields_text is_recorded happening_forms
+happening_forms_take = (
+  happens 1 Issue id_reads (λ p. refl),
+  (
+    happens 2 submitted submission_reads (λ p. refl),
+    (
+      happens 4 (λ (p : ℕ × AccessSpec). AccessAdd p.0 p.1) addition_reads (λ p. refl),
+      (
+        happens 5 (λ (p : ℕ × Bool). AccessReplace p.0 p.1) replacement_reads (λ p. refl),
+        (happens 6 AccessEnd u64_reads (λ p. refl), tt),
+      ),
+    ),
+  ),
+)
+
 happening_takes : (tag : ℕ) (bytes : List ℕ) (x : Happening) (rest : List ℕ) → IsBytes bytes → happening_at tag bytes ≡ Some (x, rest)
     → Takes bytes (fields_text x) rest × (is_recorded x ≡ true) × (tag_of x ≡ tag)
 unfolding happening_at
-happening_takes tag bytes x rest fits e =
-    let goal : Happening → Type 0 = λ y. Takes bytes (fields_text y) rest × (is_recorded y ≡ true) × (tag_of y ≡ tag) in
-    elim (chosen (eqb tag 1) _ _ _ e) [
-      | inl t ↦ let m = mapped_takes Issue id_reads bytes x rest fits t.1 in subst goal m.1 (m.2, m.3, sym (eqb-true tag 1 t.0))
-      | inr f ↦ elim (chosen (eqb tag 2) _ _ _ f.1) [
-        | inl t ↦ let m = mapped_takes submitted submission_reads bytes x rest fits t.1 in subst goal m.1 (m.2, m.3, sym (eqb-true tag 2 t.0))
-        | inr g ↦ elim (chosen (eqb tag 4) _ _ _ g.1) [
-          | inl t ↦ let m = mapped_takes (λ (p : ℕ × AccessSpec). AccessAdd p.0 p.1) addition_reads bytes x rest fits t.1 in
-              subst goal m.1 (m.2, m.3, sym (eqb-true tag 4 t.0))
-          | inr h ↦ elim (chosen (eqb tag 5) _ _ _ h.1) [
-            | inl t ↦ let m = mapped_takes (λ (p : ℕ × Bool). AccessReplace p.0 p.1) replacement_reads bytes x rest fits t.1 in
-                subst goal m.1 (m.2, m.3, sym (eqb-true tag 5 t.0))
-            | inr k ↦ elim (chosen (eqb tag 6) _ _ _ k.1) [
-              | inl t ↦ let m = mapped_takes AccessEnd u64_reads bytes x rest fits t.1 in subst goal m.1 (m.2, m.3, sym (eqb-true tag 6 t.0))
-              | inr none ↦ absurd (let no = none.1 in cc)
-            ]
-          ]
-        ]
-      ]
-    ]
+happening_takes tag bytes x rest fits e = forms_take tag_of fields_text is_recorded happening_forms happening_forms_take tag bytes x rest fits e
+
+-- what no record holds
+unrecorded : {P : Type 0} (b : Bool) → (b && false) ≡ true → P
+unrecorded b h = absurd (true≢false (sym (and_parts b false h).1))
 
 happening_again : (x : Happening) (rest : List ℕ) → is_recorded x ≡ true → happening_at (tag_of x) (fields_text x ++ rest) ≡ Some (x, rest)
 unfolding happening_at
@@ -102,6 +107,16 @@ happening_again (SubmitTransfer owner submission spec) rest h = mapped_again sub
 happening_again (AccessAdd collection spec) rest h = mapped_again (λ (p : ℕ × AccessSpec). AccessAdd p.0 p.1) addition_reads (collection, spec) rest h
 happening_again (AccessReplace rule write) rest h = mapped_again (λ (p : ℕ × Bool). AccessReplace p.0 p.1) replacement_reads (rule, write) rest h
 happening_again (AccessEnd rule) rest h = mapped_again AccessEnd u64_reads rule rest h
+happening_again (SubmitDelete owner submission spec) rest h = unrecorded (ltb spec.collection (2 ^ 32)) h
+happening_again (PauseAdd spec) rest h = unrecorded (ltb spec.collection (2 ^ 32)) h
+happening_again (PauseEnd rule) rest h = unrecorded true h
+happening_again (Cancel task) rest h = unrecorded true h
+happening_again (Update task label deadline) rest h = unrecorded true h
+happening_again (GrantItem worker item) rest h = unrecorded true h
+happening_again (RefuseItem item side) rest h = unrecorded true h
+happening_again (ReportItem item grant outcome) rest h = unrecorded true h
+happening_again (Sweep task) rest h = unrecorded true h
+happening_again Restart rest h = unrecorded true h
 
 -- ---- events
 

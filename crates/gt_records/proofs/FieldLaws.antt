@@ -11,7 +11,8 @@ use Rattle.std.proofs.Math.Nat.{mod-lt}
 use Rattle.gt_paths.specs.Name.{is_name, is_reserved, is_separator}
 use Rattle.gt_paths.specs.Path.{is_path, is_short_path, printed_len}
 use Rattle.gt_records.specs.Fields.{boolean_code, boolean_text, byte_text, id_text, list_text, moment_text, name_text, number_text, option_text, path_text, principal_text, string_text}
-use Rattle.gt_records.specs.Reading.{boolean_at, boolean_of, bytes_at, id_at, list_at, moment_at, name_at, number_at, option_at, path_at, principal_at, principal_of, string_at, utf8_at, value_at}
+use Rattle.gt_records.specs.Reading.{boolean_at, boolean_of, bytes_at, id_at, list_at, moment_at, name_at, number_at, of_form, option_at, path_at, principal_at, principal_forms, string_at, utf8_at, value_at}
+use Rattle.gt_records.proofs.FormLaws.{FormsTake, forms_take, lone_form, made_form}
 use Rattle.gt_records.proofs.Laws.{Follows, Follows-checked, IsBytes, Reads, Reads-as, Reads-checked, Reads-coded, Reads-led, Reads-mapped, Takes, all_bytes, bind_some, byte_reads, chosen, mapped_takes, bytes_follow, itself, some_is, times_follow}
 use Rattle.gt_records.proofs.LimitLaws.{is_list, is_string}
 use Rattle.gt_types.specs.declared.rule.Principal.{Principal}
@@ -231,38 +232,26 @@ form_text (Group id) = id_text id
 form_text AllAuthenticated = []
 form_text Anonymous = []
 
-principal_takes : (form : ℕ) (bytes : List ℕ) (x : Principal) (rest : List ℕ) → IsBytes bytes → principal_of form bytes ≡ Some (x, rest)
-    → Takes bytes (form_text x) rest × (is_principal x ≡ true) × (form_of x ≡ form)
-principal_takes form bytes x rest fits e =
-    let goal : Principal → Type 0 = λ y. Takes bytes (form_text y) rest × (is_principal y ≡ true) × (form_of y ≡ form) in
-    elim (chosen (eqb form 1) _ _ _ e) [
-      | inl t ↦ let m = mapped_takes Identity id_reads bytes x rest fits t.1 in
-          subst goal m.1 (m.2, m.3, sym (eqb-true form 1 t.0))
-      | inr f ↦ elim (chosen (eqb form 2) _ _ _ f.1) [
-        | inl t ↦ let m = mapped_takes Group id_reads bytes x rest fits t.1 in
-            subst goal m.1 (m.2, m.3, sym (eqb-true form 2 t.0))
-        | inr g ↦ elim (chosen (eqb form 3) _ _ _ g.1) [
-          | inl t ↦ let made : Principal × List ℕ = (AllAuthenticated, bytes) in
-              subst (λ (y : Principal × List ℕ). Takes bytes (form_text y.0) y.1 × (is_principal y.0 ≡ true) × (form_of y.0 ≡ form)) (some_is made (x, rest) t.1)
-              (record { parts = refl; rest_fits = fits }, refl, sym (eqb-true form 3 t.0))
-          | inr k ↦ elim (chosen (eqb form 4) _ _ _ k.1) [
-            | inl t ↦ let made : Principal × List ℕ = (Anonymous, bytes) in
-                subst (λ (y : Principal × List ℕ). Takes bytes (form_text y.0) y.1 × (is_principal y.0 ≡ true) × (form_of y.0 ≡ form)) (some_is made (x, rest) t.1)
-                (record { parts = refl; rest_fits = fits }, refl, sym (eqb-true form 4 t.0))
-            | inr none ↦ absurd (let no = none.1 in cc)
-          ]
-        ]
-      ]
-    ]
+principal_forms_take : FormsTake form_of form_text is_principal principal_forms
+principal_forms_take = (
+  made_form form_of form_text is_principal 1 Identity id_reads (λ id. refl),
+  (
+    made_form form_of form_text is_principal 2 Group id_reads (λ id. refl),
+    (
+      lone_form form_of form_text is_principal AllAuthenticated refl refl,
+      (lone_form form_of form_text is_principal Anonymous refl refl, tt),
+    ),
+  ),
+)
 
-principal_again : (x : Principal) (rest : List ℕ) → is_principal x ≡ true → principal_of (form_of x) (form_text x ++ rest) ≡ Some (x, rest)
+principal_again : (x : Principal) (rest : List ℕ) → is_principal x ≡ true → of_form principal_forms (form_of x) (form_text x ++ rest) ≡ Some (x, rest)
 principal_again (Identity id) rest h = rw (id_reads.again id rest h) refl
 principal_again (Group id) rest h = rw (id_reads.again id rest h) refl
 principal_again AllAuthenticated rest h = refl
 principal_again Anonymous rest h = refl
 
-principal_follows : Follows principal_of form_of form_text is_principal
-principal_follows = record { takes = principal_takes; again = principal_again }
+principal_follows : Follows (of_form principal_forms) form_of form_text is_principal
+principal_follows = record { takes = forms_take form_of form_text is_principal principal_forms principal_forms_take; again = principal_again }
 
 principal_same : (x : Principal) → byte_text (form_of x) ++ form_text x ≡ principal_text x
 principal_same (Identity id) = refl

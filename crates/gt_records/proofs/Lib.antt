@@ -1,6 +1,7 @@
 pub mod Decoded
 pub mod EventLaws
 pub mod FieldLaws
+pub mod FormLaws
 pub mod Laws
 pub mod KeepLemmas
 pub mod LimitLaws

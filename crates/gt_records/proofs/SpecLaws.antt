@@ -7,7 +7,7 @@ use Rattle.gt_paths.specs.Path.{is_path, overlaps}
 use Rattle.gt_records.specs.declared.spec.Flags.{Flags}
 use Rattle.gt_records.specs.Fields.{boolean_code, boolean_text, byte_text, list_text, moment_text, number_text, option_text, path_text, principal_text, string_text}
 use Rattle.gt_records.specs.Reading.{byte_at, coded_at, list_at, mapped, moment_at, number_at, option_at, string_at, ◌⊗◌}
-use Rattle.gt_records.specs.ReadingEvents.{SpecFields, access_spec_at, entry_at, filter_rule_at, flags_of, is_within_limits, kept_at, kind_of, recursive_of, spec_of, transfer_spec_at}
+use Rattle.gt_records.specs.ReadingEvents.{SpecFields, access_spec_at, entry_at, filter_rule_at, flags_of, kept_at, kind_of, recursive_of, spec_of, transfer_spec_at}
 use Rattle.gt_records.specs.RecordText.{access_spec_text, entry_text, filter_rule_text, flags_code, kept_text, kind_code, recursive_code, transfer_spec_text}
 use Rattle.gt_records.proofs.FieldLaws.{boolean_reads, list_reads, moment_reads, option_reads, path_reads, principal_reads, string_reads, u32_reads}
 use Rattle.gt_records.proofs.Laws.{Reads, Reads-as, Reads-both, Reads-checked, Reads-coded, Reads-mapped, byte_reads, guard_some, some_is}
@@ -165,51 +165,20 @@ spec_reads =
 abbrev pub is_spec : TransferSpec → Bool
 is_spec s = ltb s.source (2 ^ 32) && (ltb s.destination (2 ^ 32) && is_transfer_spec s)
 
-abbrev apart : TransferSpec → TransferEntry → Bool
-apart s entry = not (eqb s.source s.destination && overlaps entry.source entry.destination)
-
--- the parts of an entry that is within its limits
-entry_both : (s : TransferSpec) (entry : TransferEntry) → is_entry_form entry ≡ true → apart s entry ≡ true → is_transfer_entry (eqb s.source s.destination) entry ≡ true
-entry_both s entry h k =
-    let a = and_parts (is_path entry.source) (is_path entry.destination && true) h in
-    let b = and_parts (is_path entry.destination) true a.1 in
-    and_from _ _ (and_from _ _ a.0 b.0) k
-
 entry_form : (s : TransferSpec) (entry : TransferEntry) → is_transfer_entry (eqb s.source s.destination) entry ≡ true → is_entry_form entry ≡ true
 entry_form s entry h =
-    let a = and_parts (is_path entry.source && is_path entry.destination) (apart s entry) h in
+    let a = and_parts (is_path entry.source && is_path entry.destination) _ h in
     let b = and_parts (is_path entry.source) (is_path entry.destination) a.0 in
     and_from _ _ b.0 (and_from _ _ b.1 refl)
 
-entry_apart : (s : TransferSpec) (entry : TransferEntry) → is_transfer_entry (eqb s.source s.destination) entry ≡ true → apart s entry ≡ true
-entry_apart s entry h = (and_parts (is_path entry.source && is_path entry.destination) (apart s entry) h).1
-
-within_limits : (s : TransferSpec) → (has_forms s && is_within_limits s) ≡ true → is_spec s ≡ true
+within_limits : (s : TransferSpec) → (has_forms s && is_transfer_spec s) ≡ true → is_spec s ≡ true
 within_limits s h =
-    let both = and_parts (has_forms s) (is_within_limits s) h in
+    let both = and_parts (has_forms s) (is_transfer_spec s) h in
     let f0 = and_parts (ltb s.source (2 ^ 32)) _ both.0 in
     let f1 = and_parts (ltb s.destination (2 ^ 32)) _ f0.1 in
-    let f2 = and_parts (if_there is_string s.label) _ f1.1 in
-    let f3 = and_parts (if_there is_moment s.deadline) _ f2.1 in
-    let f4 = and_parts (if_there (λ _. true) s.level) _ f3.1 in
-    let f5 = and_parts (is_list is_rule_form s.rules) (is_list is_entry_form s.entries) f4.1 in
-    let forms = and_parts (ltb (length s.entries) (2 ^ 32)) (list_all is_entry_form s.entries) f5.1 in
-    let label = if_there is_label s.label in
-    let level = if_there (λ level. leb level 3) s.level in
-    let few = leb (length s.rules) 64 in
-    let patterns = list_all (λ rule. is_pattern rule.pattern) s.rules in
-    let l5 = and_parts (label && level && is_kept s.kept && few && patterns) (is_entries (apart s) s.entries) both.1 in
-    let l4 = and_parts (label && level && is_kept s.kept && few) patterns l5.0 in
-    let l3 = and_parts (label && level && is_kept s.kept) few l4.0 in
-    let l2 = and_parts (label && level) (is_kept s.kept) l3.0 in
-    let l1 = and_parts label level l2.0 in
-    let count = leb 1 (length s.entries) && leb (length s.entries) 10000 in
-    let entries = and_parts count (list_all (apart s) s.entries) l5.1 in
-    let good = list_all-both is_entry_form (apart s) (is_transfer_entry (eqb s.source s.destination)) (entry_both s) s.entries forms.1 entries.1 in
-    and_from _ _ f0.0 (and_from _ _ f1.0
-    (and_from _ _ (and_from _ _ (and_from _ _ (and_from _ _ (and_from _ _ (and_from _ _ l1.0 f3.0) l1.1) l2.1) l3.1) l4.1) (and_from _ _ entries.0 good)))
+    and_from _ _ f0.0 (and_from _ _ f1.0 both.1)
 
-within_forms : (s : TransferSpec) → is_spec s ≡ true → (has_forms s && is_within_limits s) ≡ true
+within_forms : (s : TransferSpec) → is_spec s ≡ true → (has_forms s && is_transfer_spec s) ≡ true
 within_forms s h =
     let w0 = and_parts (ltb s.source (2 ^ 32)) (ltb s.destination (2 ^ 32) && is_transfer_spec s) h in
     let w1 = and_parts (ltb s.destination (2 ^ 32)) (is_transfer_spec s) w0.1 in
@@ -219,18 +188,17 @@ within_forms s h =
     (list_all-map (λ rule. is_pattern rule.pattern) is_rule_form (λ rule. pattern_is_string rule.pattern) s.rules p.patterns) in
     let entries_form = short_list is_entry_form 10000 s.entries (omega arith) (leb-true (length s.entries) 10000 p.most)
     (list_all-map test is_entry_form (entry_form s) s.entries p.entries) in
-    let separate = list_all-map test (apart s) (entry_apart s) s.entries p.entries in
     and_from _ _
     (and_from _ _ w0.0 (and_from _ _ w1.0 (and_from _ _ (if_there-map is_label is_string label_is_string s.label p.label) (and_from _ _ p.deadline
     (and_from _ _ (if_there-map (λ level. leb level 3) (λ _. true) (λ _ _. refl) s.level p.level) (and_from _ _ rules_form entries_form))))))
-    (and_from _ _ (and_from _ _ (and_from _ _ (and_from _ _ (and_from _ _ p.label p.level) p.kept) p.few) p.patterns) (and_from _ _ (and_from _ _ p.some p.most) separate))
+    w1.1
 
 pub transfer_spec_reads : Reads transfer_spec_at transfer_spec_text is_spec
 unfolding transfer_spec_at
 transfer_spec_reads =
     Reads-as transfer_spec_text is_spec (λ _. refl)
-    (λ s. same_answer (has_forms s && is_within_limits s) (is_spec s) (within_limits s) (within_forms s))
-    (Reads-checked is_within_limits spec_reads)
+    (λ s. same_answer (has_forms s && is_transfer_spec s) (is_spec s) (within_limits s) (within_forms s))
+    (Reads-checked is_transfer_spec spec_reads)
 
 -- ---- access specifications
 

@@ -5,7 +5,7 @@ use Rattle.std.proofs.lemmas.Bool.{and_parts, leb-true}
 use Rattle.gt_records.proofs.LimitLaws.{all_true, if_there-map, is_list, label_is_string, short_list}
 use Rattle.gt_types.specs.declared.spec.TransferSpec.{TransferSpec}
 use Rattle.gt_types.specs.Forms.{is_entries, is_kept, is_label, is_pattern}
-use Rattle.gt_types.specs.SpecForms.{is_transfer_entry, is_transfer_spec}
+use Rattle.gt_types.specs.SpecForms.{is_rules, is_transfer_entry, is_transfer_spec}
 use Rattle.gt_values.specs.Forms.{if_there, is_moment}
 
 pub record SpecParts (s : TransferSpec) : Type 0 where
@@ -27,23 +27,23 @@ spec_parts s h =
     let few = leb (length s.rules) 64 in
     let patterns = list_all (λ rule. is_pattern rule.pattern) s.rules in
     let test = is_transfer_entry (eqb s.source s.destination) in
-    let l6 = and_parts (label && deadline && level && is_kept s.kept && few && patterns) (is_entries test s.entries) h in
-    let l5 = and_parts (label && deadline && level && is_kept s.kept && few) patterns l6.0 in
-    let l4 = and_parts (label && deadline && level && is_kept s.kept) few l5.0 in
+    let l5 = and_parts (label && deadline && level && is_kept s.kept && is_rules s.rules) (is_entries test s.entries) h in
+    let l4 = and_parts (label && deadline && level && is_kept s.kept) (is_rules s.rules) l5.0 in
     let l3 = and_parts (label && deadline && level) (is_kept s.kept) l4.0 in
     let l2 = and_parts (label && deadline) level l3.0 in
     let l1 = and_parts label deadline l2.0 in
+    let rules = and_parts few patterns l4.1 in
     let some = leb 1 (length s.entries) in
     let most = leb (length s.entries) 10000 in
-    let e1 = and_parts (some && most) (list_all test s.entries) l6.1 in
+    let e1 = and_parts (some && most) (list_all test s.entries) l5.1 in
     let e0 = and_parts some most e1.0 in
     record {
       label = l1.0;
       deadline = l1.1;
       level = l2.1;
       kept = l3.1;
-      few = l4.1;
-      patterns = l5.1;
+      few = rules.0;
+      patterns = rules.1;
       some = e0.0;
       most = e0.1;
       entries = e1.1;

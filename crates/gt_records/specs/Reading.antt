@@ -110,14 +110,27 @@ id_at = bytes_at 16
 unfoldable pub moment_at : List ℕ → Read ℕ
 moment_at = checked is_moment (number_at w64)
 
--- a principal of this form
-abbrev pub principal_of : ℕ → List ℕ → Read Principal
-principal_of form bytes =
-    if form == 1 then mapped Identity id_at bytes
-    else if form == 2 then mapped Group id_at bytes
-    else if form == 3 then Some (AllAuthenticated, bytes)
-    else if form == 4 then Some (Anonymous, bytes)
-    else None
+-- One of several forms of a value: the number that stands before it, and how what follows is read.
+pub record Form (X : Type 0) : Type 0 where
+  pub number : ℕ
+  pub reader : List ℕ → Read X
+
+-- the value by the first form whose number it is
+abbrev pub of_form : {X : Type 0} → List (Form X) → ℕ → List ℕ → Read X
+of_form [] number bytes = None
+of_form (form ∷ forms) number bytes = if number == form.number then form.reader bytes else of_form forms number bytes
+
+-- a value that nothing follows
+abbrev pub alone : {X : Type 0} → X → List ℕ → Read X
+alone x bytes = Some (x, bytes)
+
+-- the forms of a principal
+abbrev pub principal_forms : List (Form Principal)
+principal_forms =
+    (record { number = 1; reader = mapped Identity id_at })
+    ∷ (record { number = 2; reader = mapped Group id_at })
+    ∷ (record { number = 3; reader = alone AllAuthenticated })
+    ∷ (record { number = 4; reader = alone Anonymous }) ∷ []
 
 unfoldable pub principal_at : List ℕ → Read Principal
-principal_at = led byte_at principal_of
+principal_at = led byte_at (of_form principal_forms)

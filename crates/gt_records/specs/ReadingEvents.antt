@@ -1,9 +1,7 @@
 -- Reading an event from the front of a list of bytes.
 use Rattle.std.specs.Int.{w32, w64}
-use Rattle.std.specs.List.{list_all}
-use Rattle.std.specs.Prelude.{Bool, List, None, Option, Some, false, if◌then◌else◌, length, nat_le, nat_lt, not, suc, true, zero, ℕ, ◌%◌, ◌&&◌, ◌/◌, ◌==◌}
-use Rattle.gt_paths.specs.Path.{overlaps}
-use Rattle.gt_records.specs.Reading.{boolean_at, byte_at, checked, coded_at, id_at, led, list_at, mapped, moment_at, number_at, option_at, path_at, principal_at, string_at, ◌⊗◌}
+use Rattle.std.specs.Prelude.{Bool, List, None, Option, Some, [], false, if◌then◌else◌, length, nat_lt, suc, true, zero, ℕ, ◌%◌, ◌/◌, ◌==◌, ◌∷◌}
+use Rattle.gt_records.specs.Reading.{Form, boolean_at, byte_at, checked, coded_at, id_at, led, list_at, mapped, moment_at, number_at, of_form, option_at, path_at, principal_at, string_at, ◌⊗◌}
 use Rattle.gt_records.specs.declared.spec.Flags.{Flags}
 use Rattle.gt_types.specs.declared.event.Event.{Event}
 use Rattle.gt_types.specs.declared.event.Happening.{Happening}
@@ -12,10 +10,10 @@ use Rattle.gt_types.specs.declared.listing.Kind.{Kind}
 use Rattle.gt_types.specs.declared.listing.Kind.TheVariants.{File, Folder}
 use Rattle.gt_types.specs.declared.rule.AccessSpec.{AccessSpec}
 use Rattle.gt_types.specs.declared.spec.FilterRule.{FilterRule}
-use Rattle.gt_types.specs.declared.spec.Kept.{Kept}
+use Rattle.gt_types.specs.declared.kept.Kept.{Kept}
 use Rattle.gt_types.specs.declared.spec.TransferEntry.{TransferEntry}
 use Rattle.gt_types.specs.declared.spec.TransferSpec.{TransferSpec}
-use Rattle.gt_types.specs.Forms.{if_there, is_entries, is_kept, is_label, is_pattern}
+use Rattle.gt_types.specs.SpecForms.{is_transfer_spec}
 use Rattle.gt_values.specs.Grammar.{Read, ◌>>=◌}
 
 abbrev pub kind_of : ℕ → Option (Option Kind)
@@ -47,13 +45,6 @@ unfoldable pub entry_at : List ℕ → Read TransferEntry
 entry_at =
     mapped (λ p. record { source = p.0; destination = p.1.0; recursive = p.1.1 }) (path_at ⊗ path_at ⊗ coded_at recursive_of)
 
--- the limits of a specification, beside those that its fields have by themselves
-abbrev pub is_within_limits : TransferSpec → Bool
-is_within_limits spec =
-    if_there is_label spec.label && if_there (λ level. nat_le level 3) spec.level && is_kept spec.kept
-    && nat_le (length spec.rules) 64 && list_all (λ rule. is_pattern rule.pattern) spec.rules
-    && is_entries (λ entry. not ((spec.source == spec.destination) && overlaps entry.source entry.destination)) spec.entries
-
 -- the fields of a specification as they follow one another
 abbrev pub SpecFields : Type 0
 SpecFields =
@@ -77,7 +68,7 @@ spec_of (source, (destination, (label, (deadline, (level, (flags, (kept, (rules,
 
 unfoldable pub transfer_spec_at : List ℕ → Read TransferSpec
 transfer_spec_at =
-    checked is_within_limits (mapped spec_of (
+    checked is_transfer_spec (mapped spec_of (
     number_at w32 ⊗ number_at w32 ⊗ option_at string_at ⊗ option_at moment_at ⊗ option_at byte_at
     ⊗ coded_at flags_of ⊗ kept_at ⊗ list_at filter_rule_at ⊗ list_at entry_at))
 
@@ -85,15 +76,18 @@ unfoldable pub access_spec_at : List ℕ → Read AccessSpec
 access_spec_at =
     mapped (λ p. record { principal = p.0; path = p.1.0; write = p.1.1 }) (principal_at ⊗ path_at ⊗ boolean_at)
 
--- the fields of an event of this tag
+-- the forms of what happens: the tag, and the fields
+abbrev pub happening_forms : List (Form Happening)
+happening_forms =
+    (record { number = 1; reader = mapped Issue id_at })
+    ∷ (record { number = 2; reader = mapped (λ p. SubmitTransfer p.0 p.1.0 p.1.1) (id_at ⊗ id_at ⊗ transfer_spec_at) })
+    ∷ (record { number = 4; reader = mapped (λ p. AccessAdd p.0 p.1) (number_at w32 ⊗ access_spec_at) })
+    ∷ (record { number = 5; reader = mapped (λ p. AccessReplace p.0 p.1) (number_at w64 ⊗ boolean_at) })
+    ∷ (record { number = 6; reader = mapped AccessEnd (number_at w64) }) ∷ []
+
+-- what happens in an event of this tag
 unfoldable pub happening_at : ℕ → List ℕ → Read Happening
-happening_at tag bytes =
-    if tag == 1 then mapped Issue id_at bytes
-    else if tag == 2 then mapped (λ p. SubmitTransfer p.0 p.1.0 p.1.1) (id_at ⊗ id_at ⊗ transfer_spec_at) bytes
-    else if tag == 4 then mapped (λ p. AccessAdd p.0 p.1) (number_at w32 ⊗ access_spec_at) bytes
-    else if tag == 5 then mapped (λ p. AccessReplace p.0 p.1) (number_at w64 ⊗ boolean_at) bytes
-    else if tag == 6 then mapped AccessEnd (number_at w64) bytes
-    else None
+happening_at = of_form happening_forms
 
 -- the moment and the fields of an event of this tag
 abbrev pub tagged_at : ℕ → List ℕ → Read Event

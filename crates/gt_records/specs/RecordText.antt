@@ -1,16 +1,15 @@
 -- The text of a record: an event as bytes, its tag, its moment and its fields, one after the other.
 use Rattle.std.specs.Int.{w32, w64}
-use Rattle.std.specs.Prelude.{List, None, Option, Some, ℕ, ◌*◌, ◌++◌, ◌+◌}
-use Rattle.std.specs.Prelude.{Bool, false, true}
+use Rattle.std.specs.Prelude.{Bool, List, None, Option, Some, [], false, true, ℕ, ◌*◌, ◌++◌, ◌+◌}
 use Rattle.gt_records.specs.Fields.{boolean_code, boolean_text, byte_text, id_text, list_text, moment_text, number_text, option_text, path_text, principal_text, string_text}
 use Rattle.gt_types.specs.declared.event.Event.{Event}
 use Rattle.gt_types.specs.declared.event.Happening.{Happening}
-use Rattle.gt_types.specs.declared.event.Happening.TheVariants.{AccessAdd, AccessEnd, AccessReplace, Issue, SubmitTransfer}
+use Rattle.gt_types.specs.declared.event.Happening.TheVariants.{AccessAdd, AccessEnd, AccessReplace, Cancel, GrantItem, Issue, PauseAdd, PauseEnd, RefuseItem, ReportItem, Restart, SubmitDelete, SubmitTransfer, Sweep, Update}
 use Rattle.gt_types.specs.declared.listing.Kind.{Kind}
 use Rattle.gt_types.specs.declared.listing.Kind.TheVariants.{File, Folder}
 use Rattle.gt_types.specs.declared.rule.AccessSpec.{AccessSpec}
 use Rattle.gt_types.specs.declared.spec.FilterRule.{FilterRule}
-use Rattle.gt_types.specs.declared.spec.Kept.{Kept}
+use Rattle.gt_types.specs.declared.kept.Kept.{Kept}
 use Rattle.gt_types.specs.declared.spec.TransferEntry.{TransferEntry}
 use Rattle.gt_types.specs.declared.spec.TransferSpec.{TransferSpec}
 
@@ -55,17 +54,37 @@ access_spec_text spec = principal_text spec.principal ++ path_text spec.path ++ 
 abbrev pub tag_of : Happening → ℕ
 tag_of (Issue identity) = 1
 tag_of (SubmitTransfer owner submission spec) = 2
+tag_of (SubmitDelete owner submission spec) = 3
 tag_of (AccessAdd collection spec) = 4
 tag_of (AccessReplace rule write) = 5
 tag_of (AccessEnd rule) = 6
+tag_of (PauseAdd spec) = 7
+tag_of (PauseEnd rule) = 8
+tag_of (Cancel task) = 9
+tag_of (Update task label deadline) = 10
+tag_of (GrantItem worker item) = 11
+tag_of (RefuseItem item side) = 12
+tag_of (ReportItem item grant outcome) = 13
+tag_of (Sweep task) = 14
+tag_of Restart = 15
 
--- its fields, in order
+-- its fields, in order; those of events that no record holds yet are left open
 abbrev pub fields_text : Happening → List ℕ
 fields_text (Issue identity) = id_text identity
 fields_text (SubmitTransfer owner submission spec) = id_text owner ++ id_text submission ++ transfer_spec_text spec
+fields_text (SubmitDelete owner submission spec) = []
 fields_text (AccessAdd collection spec) = number_text w32 collection ++ access_spec_text spec
 fields_text (AccessReplace rule write) = number_text w64 rule ++ boolean_text write
 fields_text (AccessEnd rule) = number_text w64 rule
+fields_text (PauseAdd spec) = []
+fields_text (PauseEnd rule) = []
+fields_text (Cancel task) = []
+fields_text (Update task label deadline) = []
+fields_text (GrantItem worker item) = []
+fields_text (RefuseItem item side) = []
+fields_text (ReportItem item grant outcome) = []
+fields_text (Sweep task) = []
+fields_text Restart = []
 
 -- the text of an event
 unfoldable pub record_text : Event → List ℕ

@@ -22,9 +22,19 @@ fn tag_of(what: &Happening) -> u8
     match what {
         Happening::Issue { .. } => 1,
         Happening::SubmitTransfer { .. } => 2,
+        Happening::SubmitDelete { .. } => 3,
         Happening::AccessAdd { .. } => 4,
         Happening::AccessReplace { .. } => 5,
         Happening::AccessEnd { .. } => 6,
+        Happening::PauseAdd { .. } => 7,
+        Happening::PauseEnd { .. } => 8,
+        Happening::Cancel { .. } => 9,
+        Happening::Update { .. } => 10,
+        Happening::GrantItem { .. } => 11,
+        Happening::RefuseItem { .. } => 12,
+        Happening::ReportItem { .. } => 13,
+        Happening::Sweep { .. } => 14,
+        Happening::Restart => 15,
     }
 }
 
@@ -54,6 +64,17 @@ fn write_fields(what: &Happening, into: &mut Vec<u8>) -> Result<(), AllocError>
             write.write_to(into)
         }
         Happening::AccessEnd { rule } => rule.write_to(into),
+        // No record holds these yet.
+        Happening::SubmitDelete { .. }
+        | Happening::PauseAdd { .. }
+        | Happening::PauseEnd { .. }
+        | Happening::Cancel { .. }
+        | Happening::Update { .. }
+        | Happening::GrantItem { .. }
+        | Happening::RefuseItem { .. }
+        | Happening::ReportItem { .. }
+        | Happening::Sweep { .. }
+        | Happening::Restart => Ok(()),
     }
 }
 

@@ -9,7 +9,6 @@ mod encoding;
 mod event;
 mod fault;
 mod field;
-mod limits;
 mod path;
 mod reader;
 mod spec;

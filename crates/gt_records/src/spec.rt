@@ -11,10 +11,11 @@ ghost use Rattle.std.specs.Prelude.{◌≡◌};
 
 use crate::fault::DecodeFault;
 use crate::field::Field;
-use crate::limits::is_within_limits;
 use crate::reader::Reader;
 use gt_paths::Path;
-use gt_types::{AccessSpec, FilterRule, Kept, Kind, Principal, TransferEntry, TransferSpec};
+use gt_types::{
+    AccessSpec, FilterRule, Kept, Kind, Principal, TransferEntry, TransferSpec, is_transfer_spec,
+};
 use gt_values::{Moment, Sequence, Text};
 use std::alloc::{AllocError, Global};
 
@@ -219,7 +220,7 @@ impl Field for TransferSpec {
             rules,
             entries,
         };
-        if is_within_limits(&spec) {
+        if is_transfer_spec(&spec) {
             Ok(spec)
         } else {
             Err(DecodeFault::NotRecord)

@@ -1,6 +1,6 @@
 -- Statuses and texts, computed from the tables.
 use Rattle.std.proofs.Common.{append_assoc, refl, true, false}
-use Rattle.gt_types.specs.declared.reply.Reply.TheVariants.{Access, AccessCreated, AccessList, Done, Endpoint, Identifier, Refused, Skipped, Submitted, Successes, Task, Tasks}
+use Rattle.gt_types.specs.declared.reply.Reply.TheVariants.{Access, AccessCreated, AccessList, Done, Endpoint, Identifier, Pause, PauseCreated, PauseList, Refused, Skipped, Submitted, Successes, Task, Tasks}
 use Rattle.gt_types.specs.declared.reply.ReplyCode.TheVariants.{AuthenticationFailed, BadRequest, EndpointNotFound, Exists, JournalFault, LimitReached, MethodNotAllowed, NotFound, OutOfMemory, PermissionDenied, RuleNotFound, TaskClosed, TaskNotFound, TooLarge}
 use Rattle.serde_json.proofs.OnLiterals.{serde_json_on_literals}
 use Rattle.gt_replies.specs.Members.{with_members}
@@ -14,12 +14,15 @@ statuses (Submitted is_delete true submission task) = refl
 statuses (Submitted is_delete false submission task) = refl
 statuses (Done code) = refl
 statuses (AccessCreated rule) = refl
+statuses (PauseCreated rule) = refl
 statuses (Task task) = refl
 statuses (Tasks rows page) = refl
 statuses (Successes rows page) = refl
 statuses (Skipped rows page) = refl
 statuses (Access rule) = refl
 statuses (AccessList rows collection) = refl
+statuses (Pause rule) = refl
+statuses (PauseList rows) = refl
 statuses (Endpoint collection) = refl
 statuses (Refused BadRequest) = refl
 statuses (Refused AuthenticationFailed) = refl

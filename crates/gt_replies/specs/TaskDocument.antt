@@ -3,17 +3,20 @@ use Rattle.gt_replies.specs.Codes.{reason_name, status_name}
 use Rattle.gt_replies.specs.Documents.{task_kind}
 use Rattle.gt_replies.specs.Members.{Member, id_value, made_value, moment_value, object_of, or_null, whole}
 use Rattle.gt_setup.specs.Setup.{Setup, id_of}
-use Rattle.gt_types.specs.SpecParts.{source_of}
+use Rattle.gt_types.specs.Kept.{flag_of, kept_members, name_of}
 use Rattle.gt_types.specs.declared.code.Reason.{Reason}
 use Rattle.gt_types.specs.declared.reply.Counters.{Counters}
 use Rattle.gt_types.specs.declared.reply.TaskDocument.{TaskDocument}
-use Rattle.gt_types.specs.declared.spec.DeleteSpec.{DeleteSpec}
-use Rattle.gt_types.specs.declared.spec.Kept.{Kept}
-use Rattle.gt_types.specs.declared.spec.Spec.{Spec}
-use Rattle.gt_types.specs.declared.spec.Spec.TheVariants.{Delete as OfDelete, Transfer as OfTransfer}
-use Rattle.gt_types.specs.declared.spec.TransferSpec.{TransferSpec}
+use Rattle.gt_types.specs.declared.kept.Kept.{Kept}
+use Rattle.gt_types.specs.declared.kept.KeptMember.{KeptMember}
+use Rattle.gt_types.specs.declared.options.DeleteOptions.{DeleteOptions}
+use Rattle.gt_types.specs.declared.options.TaskOptions.{TaskOptions}
+use Rattle.gt_types.specs.declared.options.TaskOptions.TheVariants.{Delete as OfDelete, Transfer as OfTransfer}
+use Rattle.gt_types.specs.declared.options.TransferOptions.{TransferOptions}
 use Rattle.serde_json.specs.Data.{Data, boolean, null, string}
-use Rattle.std.specs.Prelude.{Bool, List, Option, [], bit_and, codes, if◌then◌else◌, not, ℕ, ◌++◌, ◌==◌, ◌∷◌}
+use Rattle.std.specs.List.{flat_map}
+use Rattle.std.specs.Option.{option_map_or}
+use Rattle.std.specs.Prelude.{List, Option, [], codes, ℕ, ◌++◌, ◌∷◌}
 
 -- how many items the task has, and how many in each class
 abbrev pub subtask_members : Counters → List Member
@@ -39,28 +42,29 @@ work_members counters =
     ∷ (codes "faults", whole counters.faults) ∷ []
 
 -- what the task is
-abbrev pub type_name : Spec → List ℕ
-type_name (OfTransfer spec) = codes "TRANSFER"
-type_name (OfDelete spec) = codes "DELETE"
+abbrev pub type_name : TaskOptions → List ℕ
+type_name (OfTransfer options) = codes "TRANSFER"
+type_name (OfDelete options) = codes "DELETE"
 
 -- where it reads: a deletion's collection stands here
-abbrev pub source_value : Setup → Spec → Data
-source_value setup spec = id_value (id_of setup (source_of spec))
+abbrev pub source_value : Setup → TaskOptions → Data
+source_value setup (OfTransfer options) = id_value (id_of setup options.source)
+source_value setup (OfDelete options) = id_value (id_of setup options.collection)
 
 -- where it writes: `null` for a deletion
-abbrev pub destination_value : Setup → Spec → Data
-destination_value setup (OfTransfer spec) = id_value (id_of setup spec.destination)
-destination_value setup (OfDelete spec) = null
+abbrev pub destination_value : Setup → TaskOptions → Data
+destination_value setup (OfTransfer options) = id_value (id_of setup options.destination)
+destination_value setup (OfDelete options) = null
 
 -- which task it is, whose, and where it works
 abbrev pub identity_members : Setup → TaskDocument → List Member
 identity_members setup task =
     (codes "DATA_TYPE", string (codes "task"))
     ∷ (codes "task_id", made_value setup.namespace task_kind task.number)
-    ∷ (codes "type", string (type_name task.spec))
+    ∷ (codes "type", string (type_name task.options))
     ∷ (codes "owner_id", id_value task.owner)
-    ∷ (codes "source_endpoint_id", source_value setup task.spec)
-    ∷ (codes "destination_endpoint_id", destination_value setup task.spec) ∷ []
+    ∷ (codes "source_endpoint_id", source_value setup task.options)
+    ∷ (codes "destination_endpoint_id", destination_value setup task.options) ∷ []
 
 -- why it closed
 abbrev pub reason_value : Option Reason → Data
@@ -82,50 +86,40 @@ time_members task =
     ∷ (codes "completion_time", or_null moment_value task.completed) ∷ []
 
 -- what a transfer has besides
-abbrev pub transfer_members : TransferSpec → List Member
-transfer_members spec =
-    (codes "delete_destination_extra", boolean spec.extra)
-    ∷ (codes "preserve_timestamp", boolean spec.preserve)
+abbrev pub transfer_members : TransferOptions → List Member
+transfer_members options =
+    (codes "delete_destination_extra", boolean options.extra)
+    ∷ (codes "preserve_timestamp", boolean options.preserve)
     ∷ (codes "recursive_symlinks", string (codes "ignore"))
-    ∷ (codes "skip_source_errors", boolean spec.skip_source)
-    ∷ (codes "sync_level", or_null whole spec.level)
-    ∷ (codes "verify_checksum", boolean spec.verify) ∷ []
+    ∷ (codes "skip_source_errors", boolean options.skip_source)
+    ∷ (codes "sync_level", or_null whole options.level)
+    ∷ (codes "verify_checksum", boolean options.verify) ∷ []
 
 -- what a deletion has besides
-abbrev pub deletion_members : DeleteSpec → List Member
-deletion_members spec =
-    (codes "ignore_missing", boolean spec.ignore_missing)
-    ∷ (codes "recursive", boolean spec.recursive) ∷ []
+abbrev pub deletion_members : DeleteOptions → List Member
+deletion_members options =
+    (codes "ignore_missing", boolean options.ignore_missing)
+    ∷ (codes "recursive", boolean options.recursive) ∷ []
 
--- whether the bit of this value is set
-abbrev pub has_bit : ℕ → ℕ → Bool
-has_bit bits bit = not (bit_and bits bit == 0)
+-- a member without effect, where it was given
+abbrev pub kept_member : Kept → KeptMember → List Member
+kept_member kept m = option_map_or (λ flag. (name_of m, boolean flag) ∷ []) (flag_of kept m) []
 
--- the kept member of this bit, where it was given
-abbrev pub kept_member : List ℕ → Kept → ℕ → List Member
-kept_member name kept bit = if has_bit kept.given bit then (name, boolean (has_bit kept.set bit)) ∷ [] else []
-
--- the kept members that were given, as they were given
-abbrev pub kept_members : Kept → List Member
-kept_members kept =
-    kept_member (codes "notify_on_succeeded") kept 1
-    ++ kept_member (codes "notify_on_failed") kept 2
-    ++ kept_member (codes "notify_on_inactive") kept 4
-    ++ kept_member (codes "encrypt_data") kept 8
-    ++ kept_member (codes "fail_on_quota_errors") kept 16
-    ++ kept_member (codes "store_base_path_info") kept 32
+-- the members without effect that were given, as they were given
+abbrev pub given_members : Kept → List Member
+given_members kept = flat_map (kept_member kept) kept_members
 
 -- the members that come from what was asked
-abbrev pub spec_members : Spec → List Member
-spec_members (OfTransfer spec) = transfer_members spec ++ kept_members spec.kept
-spec_members (OfDelete spec) = deletion_members spec ++ kept_members spec.kept
+abbrev pub options_members : TaskOptions → List Member
+options_members (OfTransfer options) = transfer_members options ++ given_members options.kept
+options_members (OfDelete options) = deletion_members options ++ given_members options.kept
 
 -- the members of a task
 abbrev pub task_members : Setup → TaskDocument → List Member
 task_members setup task =
     identity_members setup task ++ state_members task ++ time_members task
     ++ subtask_members task.counters ++ work_members task.counters
-    ++ spec_members task.spec
+    ++ options_members task.options
 
 -- a task
 unfoldable pub task_document : Setup → TaskDocument → Data

@@ -70,7 +70,7 @@ fn status_of(reply: &Reply) -> u16
 {
     match reply {
         Reply::Submitted { is_new: true, .. } => 202,
-        Reply::AccessCreated { .. } => 201,
+        Reply::AccessCreated { .. } | Reply::PauseCreated { .. } => 201,
         Reply::Refused { code } => status_of_refusal(*code),
         Reply::Identifier { .. }
         | Reply::Submitted { .. }
@@ -81,6 +81,8 @@ fn status_of(reply: &Reply) -> u16
         | Reply::Skipped { .. }
         | Reply::Access(_)
         | Reply::AccessList { .. }
+        | Reply::Pause(_)
+        | Reply::PauseList { .. }
         | Reply::Endpoint { .. } => 200,
     }
 }
@@ -108,6 +110,8 @@ fn document(alloc: Global, setup: &Setup, reply: &Reply) -> Result<Value, AllocE
         Reply::AccessList { rows, collection } => {
             access_list(alloc, setup, rows.as_slice(), *collection)
         }
+        // Pause rules aren't printed yet.
+        Reply::PauseCreated { .. } | Reply::Pause(_) | Reply::PauseList { .. } => Ok(Value::Null),
         Reply::Endpoint { collection } => endpoint(alloc, setup, *collection),
         Reply::Refused { code } => refusal(alloc, *code, ""),
     }

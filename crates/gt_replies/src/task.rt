@@ -4,8 +4,7 @@
 ghost use Rattle.gt_replies.specs.Documents.{page_document};
 ghost use Rattle.gt_replies.specs.Members.{array_of, or_null, whole, with_members};
 ghost use Rattle.gt_replies.specs.TaskDocument as table;
-ghost use Rattle.gt_types.specs.Reply.{is_printable_task};
-ghost use Rattle.gt_types.specs.SpecParts.{destination_of, source_of};
+ghost use Rattle.gt_types.specs.Reply.{are_known, is_printable_task};
 ghost use Rattle.serde_json.specs.Data.{boolean, put, string};
 ghost use Rattle.serde_json.specs.View.{members_view, view};
 ghost use Rattle.std.specs.List.{list_all};
@@ -15,7 +14,10 @@ use crate::code::{reason_name, status_name};
 use crate::list::{Row, list};
 use crate::member::{TASK, id_value, made_value, moment_or_null, moment_value, text_or_null};
 use gt_setup::Setup;
-use gt_types::{Counters, DeleteSpec, Kept, Page, Reason, Spec, TaskDocument, TransferSpec};
+use gt_types::{
+    Counters, DeleteOptions, Kept, KeptMember, Page, Reason, TaskDocument, TaskOptions,
+    TransferOptions,
+};
 use gt_values::Sequence;
 use serde_json::{Map, Value};
 use std::alloc::{AllocError, Global};
@@ -108,34 +110,38 @@ fn put_work(members: &mut Members, alloc: Global, counters: &Counters) -> Result
     put_number(members, alloc, "faults", counters.faults)
 }
 
-fn type_name(spec: &Spec) -> &'static str
-    ensures { result.now ≡ table.type_name spec.now }
+fn type_name(options: &TaskOptions) -> &'static str
+    ensures { result.now ≡ table.type_name options.now }
 {
-    match spec {
-        Spec::Transfer(_) => "TRANSFER",
-        Spec::Delete(_) => "DELETE",
+    match options {
+        TaskOptions::Transfer(_) => "TRANSFER",
+        TaskOptions::Delete(_) => "DELETE",
     }
 }
 
 /// The collection that a task reads. A deletion's collection stands here.
-fn source_value(alloc: Global, setup: &Setup, spec: &Spec) -> Result<Value, AllocError>
-    requires { source_of spec.now < length setup.now.collections }
-    ensures { IfOk result (λ value. view value ≡ table.source_value setup.now spec.now) }
+fn source_value(alloc: Global, setup: &Setup, options: &TaskOptions) -> Result<Value, AllocError>
+    requires { IsTrue (are_known (length setup.now.collections) options.now) }
+    ensures { IfOk result (λ value. view value ≡ table.source_value setup.now options.now) }
 {
-    match spec {
-        Spec::Transfer(spec) => id_value(alloc, &setup.id_of(spec.source)),
-        Spec::Delete(spec) => id_value(alloc, &setup.id_of(spec.collection)),
+    match options {
+        TaskOptions::Transfer(options) => id_value(alloc, &setup.id_of(options.source)),
+        TaskOptions::Delete(options) => id_value(alloc, &setup.id_of(options.collection)),
     }
 }
 
 /// The collection that a task writes: `null` for a deletion.
-fn destination_value(alloc: Global, setup: &Setup, spec: &Spec) -> Result<Value, AllocError>
-    requires { destination_of spec.now < length setup.now.collections }
-    ensures { IfOk result (λ value. view value ≡ table.destination_value setup.now spec.now) }
+fn destination_value(
+    alloc: Global,
+    setup: &Setup,
+    options: &TaskOptions,
+) -> Result<Value, AllocError>
+    requires { IsTrue (are_known (length setup.now.collections) options.now) }
+    ensures { IfOk result (λ value. view value ≡ table.destination_value setup.now options.now) }
 {
-    match spec {
-        Spec::Transfer(spec) => id_value(alloc, &setup.id_of(spec.destination)),
-        Spec::Delete(_) => Ok(Value::Null),
+    match options {
+        TaskOptions::Transfer(options) => id_value(alloc, &setup.id_of(options.destination)),
+        TaskOptions::Delete(_) => Ok(Value::Null),
     }
 }
 
@@ -151,11 +157,11 @@ fn put_identity(
 {
     let id = made_value(alloc, setup, TASK, task.number)?;
     let owner = id_value(alloc, &task.owner)?;
-    let source = source_value(alloc, setup, &task.spec)?;
-    let destination = destination_value(alloc, setup, &task.spec)?;
+    let source = source_value(alloc, setup, &task.options)?;
+    let destination = destination_value(alloc, setup, &task.options)?;
     put_text(members, alloc, "DATA_TYPE", "task")?;
     put_value(members, alloc, "task_id", id)?;
-    put_text(members, alloc, "type", type_name(&task.spec))?;
+    put_text(members, alloc, "type", type_name(&task.options))?;
     put_value(members, alloc, "owner_id", owner)?;
     put_value(members, alloc, "source_endpoint_id", source)?;
     put_value(members, alloc, "destination_endpoint_id", destination)
@@ -203,68 +209,78 @@ fn level_value(level: Option<u8>) -> Value
     }
 }
 
-fn put_transfer(members: &mut Members, alloc: Global, spec: &TransferSpec) -> Result<(), AllocError>
+fn put_transfer(
+    members: &mut Members,
+    alloc: Global,
+    options: &TransferOptions,
+) -> Result<(), AllocError>
     ensures { OnOk result (members_view members.new.entries
-        ≡ with_members (members_view members.old.entries) (table.transfer_members spec.now)) }
+        ≡ with_members (members_view members.old.entries) (table.transfer_members options.now)) }
 {
-    put_flag(members, alloc, "delete_destination_extra", spec.extra)?;
-    put_flag(members, alloc, "preserve_timestamp", spec.preserve)?;
+    put_flag(members, alloc, "delete_destination_extra", options.extra)?;
+    put_flag(members, alloc, "preserve_timestamp", options.preserve)?;
     put_text(members, alloc, "recursive_symlinks", "ignore")?;
-    put_flag(members, alloc, "skip_source_errors", spec.skip_source)?;
-    put_value(members, alloc, "sync_level", level_value(spec.level))?;
-    put_flag(members, alloc, "verify_checksum", spec.verify)
+    put_flag(members, alloc, "skip_source_errors", options.skip_source)?;
+    put_value(members, alloc, "sync_level", level_value(options.level))?;
+    put_flag(members, alloc, "verify_checksum", options.verify)
 }
 
-fn put_deletion(members: &mut Members, alloc: Global, spec: &DeleteSpec) -> Result<(), AllocError>
+fn put_deletion(
+    members: &mut Members,
+    alloc: Global,
+    options: &DeleteOptions,
+) -> Result<(), AllocError>
     ensures { OnOk result (members_view members.new.entries
-        ≡ with_members (members_view members.old.entries) (table.deletion_members spec.now)) }
+        ≡ with_members (members_view members.old.entries) (table.deletion_members options.now)) }
 {
-    put_flag(members, alloc, "ignore_missing", spec.ignore_missing)?;
-    put_flag(members, alloc, "recursive", spec.recursive)
+    put_flag(members, alloc, "ignore_missing", options.ignore_missing)?;
+    put_flag(members, alloc, "recursive", options.recursive)
 }
 
-/// A member without effect, where it was given. `bit` is the value of its bit.
+/// A member without effect, where it was given.
 fn put_kept_member(
     members: &mut Members,
     alloc: Global,
-    name: &str,
-    kept: &Kept,
-    bit: u8,
+    kept: Kept,
+    member: KeptMember,
 ) -> Result<(), AllocError>
     ensures { OnOk result (members_view members.new.entries
-        ≡ with_members (members_view members.old.entries) (table.kept_member name.now kept.now bit)) }
+        ≡ with_members (members_view members.old.entries) (table.kept_member kept member)) }
 {
-    if kept.given & bit != 0 {
-        put_flag(members, alloc, name, kept.set & bit != 0)
-    } else {
-        Ok(())
+    match kept.flag(member) {
+        Some(flag) => put_flag(members, alloc, member.name(), flag),
+        None => Ok(()),
     }
 }
 
-fn put_kept(members: &mut Members, alloc: Global, kept: &Kept) -> Result<(), AllocError>
+fn put_kept(members: &mut Members, alloc: Global, kept: Kept) -> Result<(), AllocError>
     ensures { OnOk result (members_view members.new.entries
-        ≡ with_members (members_view members.old.entries) (table.kept_members kept.now)) }
+        ≡ with_members (members_view members.old.entries) (table.given_members kept)) }
 {
-    put_kept_member(members, alloc, "notify_on_succeeded", kept, 1)?;
-    put_kept_member(members, alloc, "notify_on_failed", kept, 2)?;
-    put_kept_member(members, alloc, "notify_on_inactive", kept, 4)?;
-    put_kept_member(members, alloc, "encrypt_data", kept, 8)?;
-    put_kept_member(members, alloc, "fail_on_quota_errors", kept, 16)?;
-    put_kept_member(members, alloc, "store_base_path_info", kept, 32)
+    put_kept_member(members, alloc, kept, KeptMember::NotifyOnSucceeded)?;
+    put_kept_member(members, alloc, kept, KeptMember::NotifyOnFailed)?;
+    put_kept_member(members, alloc, kept, KeptMember::NotifyOnInactive)?;
+    put_kept_member(members, alloc, kept, KeptMember::EncryptData)?;
+    put_kept_member(members, alloc, kept, KeptMember::FailOnQuotaErrors)?;
+    put_kept_member(members, alloc, kept, KeptMember::StoreBasePathInfo)
 }
 
-fn put_spec(members: &mut Members, alloc: Global, spec: &Spec) -> Result<(), AllocError>
+fn put_options(
+    members: &mut Members,
+    alloc: Global,
+    options: &TaskOptions,
+) -> Result<(), AllocError>
     ensures { OnOk result (members_view members.new.entries
-        ≡ with_members (members_view members.old.entries) (table.spec_members spec.now)) }
+        ≡ with_members (members_view members.old.entries) (table.options_members options.now)) }
 {
-    match spec {
-        Spec::Transfer(spec) => {
-            put_transfer(members, alloc, spec)?;
-            put_kept(members, alloc, &spec.kept)
+    match options {
+        TaskOptions::Transfer(options) => {
+            put_transfer(members, alloc, options)?;
+            put_kept(members, alloc, options.kept)
         }
-        Spec::Delete(spec) => {
-            put_deletion(members, alloc, spec)?;
-            put_kept(members, alloc, &spec.kept)
+        TaskOptions::Delete(options) => {
+            put_deletion(members, alloc, options)?;
+            put_kept(members, alloc, options.kept)
         }
     }
 }
@@ -281,7 +297,7 @@ pub(crate) fn task(alloc: Global, setup: &Setup, task: &TaskDocument) -> Result<
     put_times(&mut members, alloc, task)?;
     put_subtasks(&mut members, alloc, &task.counters)?;
     put_work(&mut members, alloc, &task.counters)?;
-    put_spec(&mut members, alloc, &task.spec)?;
+    put_options(&mut members, alloc, &task.options)?;
     Ok(Value::Object(members))
 }
 

@@ -8,9 +8,9 @@ use crate::{
 use gt_paths::Path;
 use gt_setup::Setup;
 use gt_types::{
-    AccessDocument, AccessSpec, Code, Counters, DeleteSpec, Kept, Page, PathPair, Principal,
-    Reason, Reply, ReplyCode, ResultCode, SkippedDocument, Spec, Status, TaskDocument,
-    TransferSpec,
+    AccessDocument, AccessSpec, Code, Counters, DeleteOptions, Kept, Page, PathPair, Principal,
+    Reason, Reply, ReplyCode, ResultCode, SkippedDocument, Status, TaskDocument, TaskOptions,
+    TransferOptions,
 };
 use gt_values::{Id, Moment, Sequence, Text};
 use serde_json::Value;
@@ -464,19 +464,15 @@ fn transfer(alloc: Global) -> Result<TaskDocument, Fail>
     Ok(TaskDocument {
         number: 1,
         owner: id(0xa1),
-        spec: Spec::Transfer(TransferSpec {
+        options: TaskOptions::Transfer(TransferOptions {
             source: 0,
             destination: 1,
-            label: None,
-            deadline: None,
             level: Some(3),
             verify: true,
             preserve: true,
             extra: true,
             skip_source: true,
             kept: Kept { given: 63, set: 33 },
-            rules: Sequence::new(alloc),
-            entries: Sequence::new(alloc),
         }),
         label: Some(Text::copy_of(alloc, "née")?),
         deadline: Moment::of(253_402_300_799),
@@ -506,20 +502,17 @@ fn transfer(alloc: Global) -> Result<TaskDocument, Fail>
 }
 
 /// A deletion with no option. The bits that are set weren't given.
-fn deletion(alloc: Global) -> TaskDocument
+fn deletion() -> TaskDocument
     ensures { IsTrue (is_printable_task 3 result) }
 {
     TaskDocument {
         number: 281_474_976_710_655,
         owner: id(0xb2),
-        spec: Spec::Delete(DeleteSpec {
+        options: TaskOptions::Delete(DeleteOptions {
             collection: 2,
-            label: None,
-            deadline: None,
             recursive: true,
             ignore_missing: false,
             kept: Kept { given: 0, set: 63 },
-            entries: Sequence::new(alloc),
         }),
         label: None,
         deadline: None,
@@ -571,7 +564,7 @@ fn task_with_each_option(rt: HostRuntime) -> Result<(), Fail> {
 
 #[test]
 fn task_without_an_option(rt: HostRuntime) -> Result<(), Fail> {
-    let task = deletion(rt.alloc());
+    let task = deletion();
     reply_is(&rt, &Reply::Task(task), 200, deletion_text())
 }
 
@@ -579,7 +572,7 @@ fn task_rows(alloc: Global) -> Result<Sequence<TaskDocument>, Fail>
     ensures { IfOk result (λ rows. IsTrue (list_all (is_printable_task 3) rows)) }
 {
     let first = transfer(alloc)?;
-    let second = deletion(alloc);
+    let second = deletion();
     let mut rows = Vec::new(alloc);
     rows.push(first)?;
     rows.push(second)?;

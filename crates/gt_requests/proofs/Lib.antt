@@ -1,7 +1,6 @@
 pub mod ApartLemmas
 pub mod BodyLemmas
 pub mod CountLemmas
-pub mod KeptLemmas
 pub mod LimitLemmas
 pub mod ResourceLemmas
 pub mod RowLemmas

@@ -7,12 +7,12 @@ use Rattle.std.proofs.lemmas.Bool.{and_from, and_parts, eqb-true, lt-ltb}
 use Rattle.gt_paths.specs.Path.{is_path, overlaps}
 use Rattle.gt_setup.specs.Setup.{Setup, collection_of}
 use Rattle.gt_types.specs.Command.{is_command}
-use Rattle.gt_types.specs.Forms.{if_there, is_entries, is_kept, is_label}
+use Rattle.gt_types.specs.Forms.{is_entries, is_kept, is_label}
 use Rattle.gt_types.specs.SpecForms.{is_transfer_entry, is_transfer_spec}
 use Rattle.gt_types.specs.declared.command.Command.TheVariants.{SubmitTransfer}
 use Rattle.gt_types.specs.declared.spec.TransferEntry.{TransferEntry}
 use Rattle.gt_types.specs.declared.reply.ReplyCode.TheVariants.{EndpointNotFound}
-use Rattle.gt_values.specs.Forms.{is_id}
+use Rattle.gt_values.specs.Forms.{if_there, is_id}
 use Rattle.gt_requests.proofs.SetupLemmas.{one_collection}
 use Rattle.gt_requests.specs.Request.{collection_with, plain}
 use Rattle.gt_requests.specs.Transfer.{spec_of}

@@ -7,7 +7,7 @@ use Rattle.gt_types.specs.declared.rule.AccessSpec.{AccessSpec}
 use Rattle.gt_types.specs.declared.rule.Principal.{Principal}
 use Rattle.gt_types.specs.declared.rule.Principal.TheVariants as principal
 use Rattle.gt_requests.specs.Members.{constant_at, id_at, path_at, text_at}
-use Rattle.gt_requests.specs.Reading.{◌>>=◌}
+use Rattle.gt_values.specs.Results.{◌>>=◌}
 use Rattle.gt_requests.specs.declared.access.PrincipalType.{PrincipalType}
 use Rattle.gt_requests.specs.declared.access.PrincipalType.TheVariants as type
 use Rattle.gt_requests.specs.declared.place.Member.TheVariants as member

@@ -5,7 +5,8 @@ use Rattle.serde_json.specs.Events.{items_len}
 use Rattle.gt_paths.specs.Path.{PathValue, overlaps}
 use Rattle.gt_types.specs.declared.spec.TransferEntry.{TransferEntry}
 use Rattle.gt_requests.specs.Members.{constant_at, member_of, object_at, path_at, unset_at}
-use Rattle.gt_requests.specs.Reading.{◌>>=◌, unless_not}
+use Rattle.gt_requests.specs.Reading.{unless_not}
+use Rattle.gt_values.specs.Results.{◌>>=◌}
 use Rattle.gt_requests.specs.declared.place.Member.TheVariants as member
 use Rattle.gt_requests.specs.declared.place.Place.{Place}
 use Rattle.gt_requests.specs.declared.place.Place.TheVariants.{OfMember}

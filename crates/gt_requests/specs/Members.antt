@@ -10,7 +10,8 @@ use Rattle.gt_paths.specs.Path.{PathValue}
 use Rattle.gt_paths.specs.PathText.{read_path}
 use Rattle.gt_values.specs.IdText.{id_of}
 use Rattle.gt_requests.specs.Place.{member_name}
-use Rattle.gt_requests.specs.Reading.{◌>>=◌, unless_not}
+use Rattle.gt_requests.specs.Reading.{unless_not}
+use Rattle.gt_values.specs.Results.{◌>>=◌}
 use Rattle.gt_requests.specs.declared.place.Member.{Member}
 use Rattle.gt_requests.specs.declared.place.Member.TheVariants as member
 use Rattle.gt_requests.specs.declared.place.Place.{Place}

@@ -6,6 +6,7 @@ use Rattle.gt_requests.specs.declared.place.Place.{Place}
 use Rattle.gt_requests.specs.declared.place.Place.TheVariants.{Nowhere, OfMember, Query, Whole}
 use Rattle.gt_requests.specs.declared.place.Within.{Within}
 use Rattle.gt_requests.specs.declared.place.Within.TheVariants.{Document, Item}
+use Rattle.gt_types.specs.Kept.{name_of}
 
 -- how each member is written
 unfoldable pub member_name : Member → List ℕ
@@ -21,12 +22,7 @@ member_name member.PreserveTimestamp = codes "preserve_timestamp"
 member_name member.DeleteDestinationExtra = codes "delete_destination_extra"
 member_name member.SkipSourceErrors = codes "skip_source_errors"
 member_name member.RecursiveSymlinks = codes "recursive_symlinks"
-member_name member.NotifyOnSucceeded = codes "notify_on_succeeded"
-member_name member.NotifyOnFailed = codes "notify_on_failed"
-member_name member.NotifyOnInactive = codes "notify_on_inactive"
-member_name member.EncryptData = codes "encrypt_data"
-member_name member.FailOnQuotaErrors = codes "fail_on_quota_errors"
-member_name member.StoreBasePathInfo = codes "store_base_path_info"
+member_name (member.Kept kept) = name_of kept
 member_name member.FilterRules = codes "filter_rules"
 member_name member.Data = codes "DATA"
 member_name member.SourcePath = codes "source_path"

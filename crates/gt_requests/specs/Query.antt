@@ -1,12 +1,12 @@
 -- The target, and the page that its query asks for.
 use Rattle.std.specs.List.{position_or_len}
 use Rattle.std.specs.Option.{option_map_or}
-use Rattle.std.specs.Prelude.{Bool, List, None, Option, Some, [], codes, drop, if◌then◌else◌, length, nat_le, nat_lt, not, ok_or, option_and_then, option_map, slice_index, take, ℕ, ◌&&◌, ◌+◌, ◌==◌, ◌^◌, ◌∷◌}
-use Rattle.std.specs.Str.{all_ascii_digits, bytes_eq}
+use Rattle.std.specs.Prelude.{Bool, List, None, Option, Some, [], codes, drop, if◌then◌else◌, length, nat_le, nat_lt, ok_or, option_and_then, option_map, take, ℕ, ◌&&◌, ◌+◌, ◌-◌, ◌==◌, ◌^◌, ◌∷◌}
+use Rattle.std.specs.Str.{bytes_eq}
 use Rattle.std.specs.Str.Lossy.{utf8_lossy}
-use Rattle.std.specs.Str.Parse.{digits_value}
 use Rattle.form_urlencoded.specs.Form.{decode, raw_pairs}
 use Rattle.gt_requests.specs.declared.page.Window.{Window}
+use Rattle.gt_values.specs.Decimal.{number_in}
 
 -- the place of the first `?`, or the end
 abbrev pub cut_at : List ℕ → ℕ
@@ -32,13 +32,9 @@ find_value key (pair ∷ pairs) = if bytes_eq (decoded pair.0) key then Some (de
 abbrev pub value_at : List ℕ → List ℕ → Option (List ℕ)
 value_at key query = find_value key (raw_pairs query)
 
--- decimal digits, without a needless zero in front
-abbrev pub is_plain : List ℕ → Bool
-is_plain s = nat_lt 0 (length s) && (not (nat_lt 1 (length s) && (slice_index s 0 == 48)) && all_ascii_digits s)
-
 -- a number of 8 bytes
-unfoldable pub number_of : List ℕ → Option ℕ
-number_of s = if is_plain s && nat_lt (digits_value 10 s) (2 ^ 64) then Some (digits_value 10 s) else None
+abbrev pub number_of : List ℕ → Option ℕ
+number_of s = number_in (2 ^ 64 - 1) s
 
 abbrev pub within : ℕ → Option ℕ
 within n = if nat_le 1 n && nat_le n 1000 then Some n else None

@@ -4,12 +4,6 @@ use Rattle.gt_requests.specs.declared.fault.DocumentFault.{DocumentFault}
 use Rattle.gt_requests.specs.declared.fault.DocumentFault.TheVariants.{Bad, OutOfMemory}
 use Rattle.gt_requests.specs.declared.place.Place.{Place}
 
--- a reading that goes on where the one before it gave a value
-infixl 10 ◌>>=◌
-abbrev pub ◌>>=◌ : {A B E : Type 0} → Result A E → (A → Result B E) → Result B E
-Ok a >>= next = next a
-Err e >>= next = Err e
-
 -- goes on where the test holds
 abbrev pub unless_not : {E : Type 0} → Bool → E → Result Unit E
 unless_not holds e = if holds then Ok tt else Err e

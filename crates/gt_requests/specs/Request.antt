@@ -14,7 +14,8 @@ use Rattle.gt_requests.specs.Actions.{action_of}
 use Rattle.gt_requests.specs.Members.{object_of}
 use Rattle.gt_requests.specs.Place.{place_text}
 use Rattle.gt_requests.specs.Query.{front_of, query_of, window_at}
-use Rattle.gt_requests.specs.Reading.{◌>>=◌, unless_not}
+use Rattle.gt_requests.specs.Reading.{unless_not}
+use Rattle.gt_values.specs.Results.{◌>>=◌}
 use Rattle.gt_requests.specs.Routes.{resource_at}
 use Rattle.gt_requests.specs.Transfer.{home_or_root, spec_of, submission_of}
 use Rattle.gt_requests.specs.declared.action.Action.{Action}

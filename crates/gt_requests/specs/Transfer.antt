@@ -1,22 +1,24 @@
 -- The transfer document, whose members are tested in this order.
 use Rattle.std.specs.Option.{option_map_or}
-use Rattle.std.specs.Prelude.{Bool, Err, List, None, Ok, Option, Result, Some, [], chars, codes, false, if◌then◌else◌, length, nat_le, ok_or, option_and_then, true, ℕ, ◌*◌, ◌+◌, ◌==◌, ◌∷◌}
+use Rattle.std.specs.Prelude.{Bool, Err, List, None, Ok, Option, Result, Some, [], codes, false, if◌then◌else◌, ok_or, option_and_then, true, ℕ, ◌==◌, ◌∷◌}
 use Rattle.std.specs.Str.{bytes_eq}
 use Rattle.serde_json.specs.Data.{Data, array, string}
 use Rattle.serde_json.specs.Events.{items_len}
 use Rattle.gt_paths.specs.Path.{PathValue}
 use Rattle.gt_setup.specs.Setup.{Setup, collection_of, home_of}
-use Rattle.gt_types.specs.declared.spec.Kept.{Kept}
+use Rattle.gt_types.specs.Forms.{is_label}
+use Rattle.gt_types.specs.Kept.{kept_members, no_kept, with_flag}
+use Rattle.gt_types.specs.declared.kept.Kept.{Kept}
+use Rattle.gt_types.specs.declared.kept.KeptMember.{KeptMember}
 use Rattle.gt_types.specs.declared.spec.TransferSpec.{TransferSpec}
 use Rattle.gt_requests.specs.Entries.{Sides, entries_of, sides_between}
 use Rattle.gt_requests.specs.Members.{absent_at, constant_at, default_at, flag_at, id_at, member_of, switch_at, unset_at}
-use Rattle.gt_requests.specs.Reading.{◌>>=◌, unless_not}
-use Rattle.gt_requests.specs.declared.place.Member.{Member}
+use Rattle.gt_requests.specs.Reading.{unless_not}
+use Rattle.gt_values.specs.Results.{◌>>=◌}
 use Rattle.gt_requests.specs.declared.place.Member.TheVariants as member
 use Rattle.gt_requests.specs.declared.place.Place.{Place}
 use Rattle.gt_requests.specs.declared.place.Place.TheVariants.{OfMember}
 use Rattle.gt_requests.specs.declared.place.Within.TheVariants.{Document}
-use Rattle.gt_requests.specs.declared.kept.TheConstants.{KEPT}
 use Rattle.gt_requests.specs.declared.transfer.Ends.{Ends}
 use Rattle.gt_requests.specs.declared.transfer.Flags.{Flags}
 use Rattle.gt_requests.specs.declared.transfer.Options.{Options}
@@ -33,7 +35,7 @@ ends_of d = do
 -- a label has at most 128 characters
 abbrev pub label_of : Option Data → Option (Option (List ℕ))
 label_of None = Some None
-label_of (Some (string s)) = if nat_le (length (chars s)) 128 then Some (Some s) else None
+label_of (Some (string s)) = if is_label s then Some (Some s) else None
 label_of (Some _) = None
 
 unfoldable pub label_at : Data → Result (Option (List ℕ)) Place
@@ -48,16 +50,18 @@ flags_of d = do
   skip_source ← switch_at Document d member.SkipSourceErrors
   Ok (record { verify = verify; preserve = preserve; skip_source = skip_source })
 
--- one more member below the others' bits
-abbrev pub with_flag : Option Bool → Kept → Kept
-with_flag None kept = record { given = 2 * kept.given; set = 2 * kept.set }
-with_flag (Some false) kept = record { given = 2 * kept.given + 1; set = 2 * kept.set }
-with_flag (Some true) kept = record { given = 2 * kept.given + 1; set = 2 * kept.set + 1 }
+-- what is given of one more member without effect
+abbrev pub with_member : Data → Kept → KeptMember → Result Kept Place
+with_member d kept m = flag_at Document d (member.Kept m) >>= λ flag. Ok (with_flag kept m flag)
 
--- the members without effect, the first of them as the lowest bit
-unfoldable pub kept_of : List Member → Data → Result Kept Place
-kept_of [] d = Ok (record { given = 0; set = 0 })
-kept_of (m ∷ ms) d = flag_at Document d m >>= λ flag. kept_of ms d >>= λ kept. Ok (with_flag flag kept)
+-- what is given of each of them, one after the other
+abbrev pub kept_among : Data → Kept → List KeptMember → Result Kept Place
+kept_among d kept [] = Ok kept
+kept_among d kept (m ∷ ms) = with_member d kept m >>= λ more. kept_among d more ms
+
+-- what is given of the six members without effect
+unfoldable pub kept_at : Data → Result Kept Place
+kept_at d = kept_among d no_kept kept_members
 
 -- no filter rules
 abbrev pub are_none : Option Data → Bool
@@ -76,7 +80,7 @@ options_of d = do
   _ ← absent_at Document d member.SyncLevel
   flags ← flags_of d
   _ ← default_at (codes "ignore") Document d member.RecursiveSymlinks
-  kept ← kept_of KEPT d
+  kept ← kept_at d
   _ ← no_rules_at d
   Ok (record { label = label; flags = flags; kept = kept })
 

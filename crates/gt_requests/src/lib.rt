@@ -14,7 +14,6 @@ mod fault;
 mod incoming;
 mod kept;
 mod members;
-mod number;
 mod page;
 mod place;
 mod refusal;

@@ -104,10 +104,7 @@ pub(crate) fn id(object: &Value, within: Within, member: Member) -> Result<Id, P
         return Err(Place::OfMember { within, member });
     };
     match Id::read(text) {
-        Some(id) => {
-            let _bytes = id.as_bytes();
-            Ok(id)
-        }
+        Some(id) => Ok(id),
         None => Err(Place::OfMember { within, member }),
     }
 }

@@ -3,8 +3,8 @@ ghost use Rattle.gt_types.specs.Command.{is_page};
 ghost use Rattle.std.specs.Cow.{cow_str_bytes};
 ghost use Rattle.std.specs.Prelude.{◌≡◌, ◌&&◌, IfOk, IfSome, nat_le, option_map, true};
 
-use crate::number::number;
 use form_urlencoded::parse;
+use gt_values::read_decimal;
 use std::alloc::{AllocError, Global};
 use std::borrow::CowStr;
 
@@ -60,7 +60,7 @@ fn limit_from(value: Option<&CowStr<'_>>) -> Option<u32>
     let Some(text) = value else {
         return Some(100);
     };
-    match number(text.as_str()) {
+    match read_decimal(text.as_str(), u64::MAX) {
         Some(limit) if 1 <= limit && limit <= 1000 => Some(limit as u32),
         _ => None,
     }
@@ -72,5 +72,5 @@ fn offset_from(value: Option<&CowStr<'_>>) -> Option<u64>
     let Some(text) = value else {
         return Some(0);
     };
-    number(text.as_str())
+    read_decimal(text.as_str(), u64::MAX)
 }

@@ -2,6 +2,7 @@ ghost use Rattle.gt_requests.specs.Place.{member_name, place_text};
 ghost use Rattle.gt_requests.specs.declared.place.Place.TheVariants.{OfMember, Whole};
 ghost use Rattle.std.specs.Prelude.{◌≡◌, ◌++◌, IfOk, IsOk, codes, decimal, string_bytes};
 
+use gt_types::KeptMember;
 use gt_values::Text;
 use std::alloc::{AllocError, Global};
 
@@ -20,12 +21,7 @@ pub(crate) enum Member {
     DeleteDestinationExtra,
     SkipSourceErrors,
     RecursiveSymlinks,
-    NotifyOnSucceeded,
-    NotifyOnFailed,
-    NotifyOnInactive,
-    EncryptData,
-    FailOnQuotaErrors,
-    StoreBasePathInfo,
+    Kept(KeptMember),
     FilterRules,
     Data,
     SourcePath,
@@ -56,12 +52,7 @@ impl Member {
             Member::DeleteDestinationExtra => "delete_destination_extra",
             Member::SkipSourceErrors => "skip_source_errors",
             Member::RecursiveSymlinks => "recursive_symlinks",
-            Member::NotifyOnSucceeded => "notify_on_succeeded",
-            Member::NotifyOnFailed => "notify_on_failed",
-            Member::NotifyOnInactive => "notify_on_inactive",
-            Member::EncryptData => "encrypt_data",
-            Member::FailOnQuotaErrors => "fail_on_quota_errors",
-            Member::StoreBasePathInfo => "store_base_path_info",
+            Member::Kept(member) => member.name(),
             Member::FilterRules => "filter_rules",
             Member::Data => "DATA",
             Member::SourcePath => "source_path",

@@ -5,6 +5,7 @@ ghost use Rattle.gt_requests.specs.declared.refusal.ReadFault.TheVariants as fau
 ghost use Rattle.gt_setup.specs.Setup.{has_identity};
 ghost use Rattle.gt_types.specs.Command.{is_command};
 ghost use Rattle.gt_types.specs.declared.reply.ReplyCode.TheVariants.{TooLarge};
+ghost use Rattle.gt_values.specs.Results.{FaultsAs};
 ghost use Rattle.std.specs.Prelude.{◌≡◌, ◌⊎◌, ◌≤◌, Err, IfErr, IfOk, IfSome, IsErrOf, Ok, length, option_copied, true};
 
 use crate::action::{Action, action_on};
@@ -39,7 +40,7 @@ pub fn read_request(
 ) -> Result<(Id, Command), RequestFault>
     // Each request has one reading, and it is given unless memory runs out.
     ensures ok { IfOk result (λ request. request_of setup.now method.now target.now (option_copied token.entry) body.now ≡ Ok request) }
-    ensures fault { IfErr result (λ fault. (fault ≡ RequestFault.OutOfMemory) ⊎ (request_of setup.now method.now target.now (option_copied token.entry) body.now ≡ Err fault)) }
+    ensures fault { FaultsAs RequestFault.OutOfMemory (request_of setup.now method.now target.now (option_copied token.entry) body.now) result }
     ensures memory { IsErrOf result RequestFault.OutOfMemory → length body.now ≤ 4_194_304 }
 
     ensures caller { IfOk result (λ request. has_identity setup.now request.0 ≡ true) }

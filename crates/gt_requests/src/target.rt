@@ -23,9 +23,7 @@ pub(crate) fn id_in(front: &str, place: usize) -> Option<Id>
     ensures value { result ≡ piece_id front.now place }
     ensures limits { IfSome result (λ id. is_id id ≡ true) }
 {
-    let id = Id::read(piece(front, place)?)?;
-    let _bytes = id.as_bytes();
-    Some(id)
+    Id::read(piece(front, place)?)
 }
 
 /// A piece of a front.

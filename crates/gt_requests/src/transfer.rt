@@ -1,23 +1,23 @@
 ghost use Rattle.gt_requests.specs.Entries.{entries_of};
 ghost use Rattle.gt_requests.specs.Reading.{ReadsAs};
 ghost use Rattle.gt_requests.specs.Transfer.{ends_of, flags_of, home_or_root, label_at, no_rules_at, options_of, sides_of, spec_of, submission_of};
-ghost use Rattle.gt_types.specs.Forms.{if_there, is_entries, is_kept, is_label};
+ghost use Rattle.gt_types.specs.Forms.{is_entries, is_kept, is_label};
 ghost use Rattle.gt_types.specs.SpecForms.{is_transfer_entry};
 ghost use Rattle.gt_types.specs.declared.command.Command.TheVariants as command;
-ghost use Rattle.gt_values.specs.Forms.{is_id};
+ghost use Rattle.gt_values.specs.Forms.{if_there, is_id};
 ghost use Rattle.serde_json.specs.View.{view};
-ghost use Rattle.std.specs.Prelude.{◌≡◌, ◌&&◌, ◌<◌, [], IfOk, chars, length, true};
+ghost use Rattle.std.specs.Prelude.{◌≡◌, ◌&&◌, ◌<◌, [], IfOk, length, true};
 ghost use Rattle.std.specs.Option.{ForSome};
 ghost use Rattle.std.specs.Str.{bytes_eq};
 
 use crate::entries::read_entries;
 use crate::fault::DocumentFault;
-use crate::kept::{KEPT, read_kept};
+use crate::kept::read_kept;
 use crate::members::{absent, constant, constant_if_there, id, member, switch, unset};
 use crate::place::{Member, Place, Within};
 use gt_paths::Path;
 use gt_setup::Setup;
-use gt_types::{Command, Kept, TransferEntry, TransferSpec};
+use gt_types::{Command, Kept, TransferEntry, TransferSpec, is_label};
 use gt_values::{Id, Sequence, Text};
 use serde_json::Value;
 use std::alloc::Global;
@@ -135,7 +135,7 @@ fn read_options(alloc: Global, object: &Value) -> Result<Options, DocumentFault>
     absent(object, within, Member::SyncLevel)?;
     let flags = read_flags(object)?;
     constant_if_there(object, within, Member::RecursiveSymlinks, "ignore")?;
-    let kept = read_kept(object, &KEPT)?;
+    let kept = read_kept(object)?;
     no_rules(object)?;
     Ok(Options { label, flags, kept })
 }
@@ -171,17 +171,9 @@ fn read_label(alloc: Global, object: &Value) -> Result<Option<Text>, DocumentFau
         return Ok(None);
     };
     match value.as_str() {
-        Some(text) if char_count(text) <= 128 => Ok(Some(Text::copy_of(alloc, text)?)),
+        Some(text) if is_label(text) => Ok(Some(Text::copy_of(alloc, text)?)),
         _ => Err(DocumentFault::Bad(bad)),
     }
-}
-
-/// How many characters the text has.
-#[tactic(auto, using(std::proofs::lemmas::Str::chars_from_encodes))]
-fn char_count(text: &str) -> usize
-    ensures { result ≡ length (chars text.now) }
-{
-    text.chars().count()
 }
 
 /// Tests that there are no filter rules.

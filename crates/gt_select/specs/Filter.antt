@@ -1,19 +1,12 @@
 -- Which entries of a folder the filter rules leave in.
 use Rattle.gt_select.specs.Pattern.{matches}
+use Rattle.gt_types.specs.Listing.{kind_in, same_kind}
 use Rattle.gt_types.specs.declared.listing.Entry.{Entry}
 use Rattle.gt_types.specs.declared.listing.Kind.{Kind}
-use Rattle.gt_types.specs.declared.listing.Kind.TheVariants.{File, Folder}
 use Rattle.gt_types.specs.declared.spec.FilterRule.{FilterRule}
 use Rattle.std.specs.Option.{option_map_or}
-use Rattle.std.specs.Prelude.{Bool, List, None, Option, Some, false, filter, find, not, option_map, position, true, ℕ, ◌&&◌}
-use Rattle.std.specs.Str.{bytes_eq, chars}
-
--- whether the two kinds are one
-abbrev pub same_kind : Kind → Kind → Bool
-same_kind File File = true
-same_kind File Folder = false
-same_kind Folder File = false
-same_kind Folder Folder = true
+use Rattle.std.specs.Prelude.{Bool, List, None, Option, Some, filter, find, not, position, true, ℕ, ◌&&◌}
+use Rattle.std.specs.Str.{chars}
 
 -- a rule without a kind is about both
 abbrev pub is_of_kind : Kind → Option Kind → Bool
@@ -35,10 +28,6 @@ is_chosen rules name kind = option_map_or (λ rule. rule.include) (find (is_abou
 -- the entries that are chosen
 abbrev pub chosen_of : List FilterRule → List Entry → List Entry
 chosen_of rules entries = filter (λ entry. is_chosen rules entry.name entry.kind) entries
-
--- the kind of the name in the listing
-abbrev pub kind_in : List Entry → List ℕ → Option Kind
-kind_in entries name = option_map (λ entry. entry.kind) (find (λ entry. bytes_eq entry.name name) entries)
 
 -- whether the source lacks the entry of the destination, or has it in another kind that is chosen
 abbrev pub is_extra : List FilterRule → List Entry → Entry → Bool

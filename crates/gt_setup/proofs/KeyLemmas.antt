@@ -5,7 +5,8 @@ use Rattle.std.specs.List.{list_any}
 use Rattle.std.specs.Option.{ok_or, option_and_then}
 use Rattle.std.specs.Str.{bytes_eq}
 use Rattle.toml.specs.Data.{Data, Items, array, boolean, datetime, float, get, integer, item, no_items, string, table}
-use Rattle.gt_setup.specs.Grammar.{identities_from, identity_at, required, ◌>>=◌}
+use Rattle.gt_setup.specs.Grammar.{identities_from, identity_at, required}
+use Rattle.gt_values.specs.Results.{◌>>=◌}
 use Rattle.gt_setup.specs.Value.{digest_in, digests_in, groups_in, id_in, name_in, new_digest_in, tokens_in}
 use Rattle.gt_setup.specs.declared.fault.SetupFault.{SetupFault}
 use Rattle.gt_setup.specs.declared.fault.SetupFault.TheVariants.{BadValue}

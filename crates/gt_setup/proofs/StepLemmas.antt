@@ -5,7 +5,8 @@ use Rattle.std.specs.Option.{option_and_then}
 use Rattle.toml.specs.Data.{Data, Items, item}
 use Rattle.toml.specs.View.{items_view, view}
 use Rattle.toml.specs.declared.value.Value.{Value}
-use Rattle.gt_setup.specs.Grammar.{identities_from, identity_at, ◌>>=◌}
+use Rattle.gt_setup.specs.Grammar.{identities_from, identity_at}
+use Rattle.gt_values.specs.Results.{◌>>=◌}
 use Rattle.gt_setup.specs.Value.{digests_in, new_digest_in}
 use Rattle.gt_setup.specs.declared.fault.SetupFault.{SetupFault}
 use Rattle.gt_setup.specs.declared.parts.Identity.{Identity}

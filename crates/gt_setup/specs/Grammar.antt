@@ -9,14 +9,9 @@ use Rattle.gt_setup.specs.declared.fault.SetupFault.{SetupFault}
 use Rattle.gt_setup.specs.declared.fault.SetupFault.TheVariants.{BadValue, Missing, NotToml, TooLong, Twice, UnknownIdentity}
 use Rattle.gt_setup.specs.declared.parts.Collection.{Collection}
 use Rattle.gt_setup.specs.declared.parts.Identity.{Identity}
+use Rattle.gt_values.specs.Results.{◌>>=◌}
 use Rattle.toml.specs.Data.{Data, Items, Members, get, get_member, item, no_items}
 use Rattle.toml.specs.Parse.{parse_document}
-
--- a part, and what follows it; the first fault is that of the whole
-infixl 10 ◌>>=◌
-abbrev pub ◌>>=◌ : {A B : Type 0} → Result A SetupFault → (A → Result B SetupFault) → Result B SetupFault
-Ok part >>= next = next part
-Err fault >>= next = Err fault
 
 -- what the value at the key stands for: there has to be one, and it has to stand for something
 abbrev pub required : {A : Type 0} → List ℕ → ℕ → (Data → Option A) → Option Data → Result A SetupFault

@@ -3,6 +3,7 @@
 ghost use Rattle.gt_setup.specs.Grammar.{required};
 ghost use Rattle.gt_setup.specs.Indexed.{Takes};
 ghost use Rattle.gt_setup.specs.Value as spec;
+ghost use Rattle.gt_values.specs.Results.{FaultsAs};
 ghost use Rattle.std.specs.BTreeMap.{keys};
 ghost use Rattle.std.specs.Prelude.{◌≡◌, ◌⊎◌, ◌++◌, ◌<◌, ◌^◌, IfErr, IfOk, codes, length, option_map};
 ghost use Rattle.toml.specs.Data.{get, get_member};
@@ -26,7 +27,7 @@ fn member<'a>(table: &'a Table, key: &str) -> Option<&'a Value>
 /// The namespace of the file's table.
 pub(crate) fn namespace_of(alloc: Global, table: &Table) -> Result<u32, SetupFault>
     ensures ok { IfOk result (λ n. required (codes "namespace") 0 spec.namespace_in (get_member (codes "namespace") (table_view table.now)) ≡ Ok n) }
-    ensures fault { IfErr result (λ f. (f ≡ SetupFault.OutOfMemory) ⊎ (required (codes "namespace") 0 spec.namespace_in (get_member (codes "namespace") (table_view table.now)) ≡ Err f)) }
+    ensures fault { FaultsAs SetupFault.OutOfMemory (required (codes "namespace") 0 spec.namespace_in (get_member (codes "namespace") (table_view table.now))) result }
 {
     let Some(value) = member(table, "namespace") else {
         return Err(SetupFault::missing(alloc, "namespace", 0));
@@ -45,7 +46,7 @@ pub(crate) fn rows_of<'a>(
 ) -> Result<&'a [Value], SetupFault>
     ensures ok { IfOk result (λ rows. required key.now 0 spec.rows_in (get_member key.now (table_view table.now)) ≡ Ok (items_view rows.now)) }
     ensures few { IfOk result (λ rows. length rows.now < 2 ^ 32) }
-    ensures fault { IfErr result (λ f. (f ≡ SetupFault.OutOfMemory) ⊎ (required key.now 0 spec.rows_in (get_member key.now (table_view table.now)) ≡ Err f)) }
+    ensures fault { FaultsAs SetupFault.OutOfMemory (required key.now 0 spec.rows_in (get_member key.now (table_view table.now))) result }
 {
     let Some(value) = member(table, key) else {
         return Err(SetupFault::missing(alloc, key, 0));
@@ -69,7 +70,7 @@ pub(crate) fn id_at(
     text: &str,
 ) -> Result<Id, SetupFault>
     ensures ok { IfOk result (λ id. required text.now number spec.id_in (get key.now (view row.now)) ≡ Ok id) }
-    ensures fault { IfErr result (λ f. (f ≡ SetupFault.OutOfMemory) ⊎ (required text.now number spec.id_in (get key.now (view row.now)) ≡ Err f)) }
+    ensures fault { FaultsAs SetupFault.OutOfMemory (required text.now number spec.id_in (get key.now (view row.now))) result }
 {
     let Some(value) = row.get(key) else {
         return Err(SetupFault::missing(alloc, text, number));
@@ -88,7 +89,7 @@ pub(crate) fn name_at(
     text: &str,
 ) -> Result<Text, SetupFault>
     ensures ok { IfOk result (λ name. required text.now number spec.name_in (get (codes "name") (view row.now)) ≡ Ok name) }
-    ensures fault { IfErr result (λ f. (f ≡ SetupFault.OutOfMemory) ⊎ (required text.now number spec.name_in (get (codes "name") (view row.now)) ≡ Err f)) }
+    ensures fault { FaultsAs SetupFault.OutOfMemory (required text.now number spec.name_in (get (codes "name") (view row.now))) result }
 {
     let Some(value) = row.get("name") else {
         return Err(SetupFault::missing(alloc, text, number));
@@ -108,7 +109,7 @@ pub(crate) fn tokens_at(
 ) -> Result<Sequence<Digest>, SetupFault>
     ensures ok { IfOk result (λ tokens. required (codes "identity.tokens") number (spec.tokens_in (keys taken.old)) (get (codes "tokens") (view row.now)) ≡ Ok tokens) }
     ensures taken { IfOk result (λ tokens. Takes number tokens taken.old taken.new) }
-    ensures fault { IfErr result (λ f. (f ≡ SetupFault.OutOfMemory) ⊎ (required (codes "identity.tokens") number (spec.tokens_in (keys taken.old)) (get (codes "tokens") (view row.now)) ≡ Err f)) }
+    ensures fault { FaultsAs SetupFault.OutOfMemory (required (codes "identity.tokens") number (spec.tokens_in (keys taken.old)) (get (codes "tokens") (view row.now))) result }
 {
     let Some(value) = row.get("tokens") else {
         return Err(SetupFault::missing(alloc, "identity.tokens", number));
@@ -122,7 +123,7 @@ pub(crate) fn tokens_at(
 /// The groups of an identity.
 pub(crate) fn groups_at(alloc: Global, row: &Value, number: u32) -> Result<Sequence<Id>, SetupFault>
     ensures ok { IfOk result (λ groups. required (codes "identity.groups") number spec.groups_in (get (codes "groups") (view row.now)) ≡ Ok groups) }
-    ensures fault { IfErr result (λ f. (f ≡ SetupFault.OutOfMemory) ⊎ (required (codes "identity.groups") number spec.groups_in (get (codes "groups") (view row.now)) ≡ Err f)) }
+    ensures fault { FaultsAs SetupFault.OutOfMemory (required (codes "identity.groups") number spec.groups_in (get (codes "groups") (view row.now))) result }
 {
     let Some(value) = row.get("groups") else {
         return Err(SetupFault::missing(alloc, "identity.groups", number));
@@ -136,7 +137,7 @@ pub(crate) fn groups_at(alloc: Global, row: &Value, number: u32) -> Result<Seque
 /// The home of a collection.
 pub(crate) fn home_at(alloc: Global, row: &Value, number: u32) -> Result<Path, SetupFault>
     ensures ok { IfOk result (λ home. required (codes "collection.home") number spec.home_in (get (codes "home") (view row.now)) ≡ Ok home) }
-    ensures fault { IfErr result (λ f. (f ≡ SetupFault.OutOfMemory) ⊎ (required (codes "collection.home") number spec.home_in (get (codes "home") (view row.now)) ≡ Err f)) }
+    ensures fault { FaultsAs SetupFault.OutOfMemory (required (codes "collection.home") number spec.home_in (get (codes "home") (view row.now))) result }
 {
     let Some(value) = row.get("home") else {
         return Err(SetupFault::missing(alloc, "collection.home", number));

@@ -4,6 +4,7 @@ ghost use Rattle.gt_setup.specs.Grammar.{none_or, repeated_among};
 ghost use Rattle.gt_setup.specs.Indexed.{IsIndexOf, is_collection};
 ghost use Rattle.gt_setup.specs.Setup.{is_identity};
 ghost use Rattle.gt_setup.specs.declared.fault.SetupFault.TheVariants.{OutOfMemory, Twice};
+ghost use Rattle.gt_values.specs.Results.{FaultsAs};
 ghost use Rattle.std.specs.Prelude.{◌≡◌, ◌⊎◌, [], IfErr, IfOk, None, OnOk, map};
 ghost use Rattle.std.specs.Str.{bytes_eq};
 
@@ -21,7 +22,7 @@ pub(crate) fn identity_places(
 ) -> Result<BTreeMap<Id, usize>, SetupFault>
     ensures apart { OnOk result (repeated_among [] (map (λ i. i.who.identity) identities.now) ≡ None) }
     ensures index { IfOk result (λ places. IsIndexOf is_identity identities.now places) }
-    ensures fault { IfErr result (λ f. (f ≡ OutOfMemory) ⊎ (none_or (repeated_among [] (map (λ i. i.who.identity) identities.now)) Twice ≡ Err f)) }
+    ensures fault { FaultsAs OutOfMemory (none_or (repeated_among [] (map (λ i. i.who.identity) identities.now)) Twice) result }
 {
     let ids = ids_of_identities(alloc, identities)?;
     places_of(alloc, &ids)
@@ -35,7 +36,7 @@ pub(crate) fn collection_places(
 ) -> Result<BTreeMap<Id, usize>, SetupFault>
     ensures apart { OnOk result (repeated_among [] (map (λ c. c.id) collections.now) ≡ None) }
     ensures index { IfOk result (λ places. IsIndexOf is_collection collections.now places) }
-    ensures fault { IfErr result (λ f. (f ≡ OutOfMemory) ⊎ (none_or (repeated_among [] (map (λ c. c.id) collections.now)) Twice ≡ Err f)) }
+    ensures fault { FaultsAs OutOfMemory (none_or (repeated_among [] (map (λ c. c.id) collections.now)) Twice) result }
 {
     let ids = ids_of_collections(alloc, collections)?;
     places_of(alloc, &ids)
@@ -57,7 +58,7 @@ fn ids_of_collections(alloc: Global, collections: &[Collection]) -> Result<Vec<I
 fn places_of(alloc: Global, ids: &[Id]) -> Result<BTreeMap<Id, usize>, SetupFault>
     ensures apart { OnOk result (repeated_among [] ids.now ≡ None) }
     ensures index { IfOk result (λ places. IsIndexOf (λ key id. bytes_eq id key) ids.now places) }
-    ensures fault { IfErr result (λ f. (f ≡ OutOfMemory) ⊎ (none_or (repeated_among [] ids.now) Twice ≡ Err f)) }
+    ensures fault { FaultsAs OutOfMemory (none_or (repeated_among [] ids.now) Twice) result }
 {
     let mut places = BTreeMap::new(alloc);
     for at in 0..ids.len() {

@@ -3,6 +3,7 @@
 ghost use Rattle.gt_setup.specs.Grammar as spec;
 ghost use Rattle.gt_setup.specs.Indexed.{IsIndexOf, Takes};
 ghost use Rattle.gt_setup.specs.Setup.{lists};
+ghost use Rattle.gt_values.specs.Results.{FaultsAs};
 ghost use Rattle.std.specs.BTreeMap.{keys};
 ghost use Rattle.std.specs.Prelude.{◌≡◌, ◌⊎◌, ◌++◌, ◌<◌, ◌^◌, [], IfErr, IfOk, length};
 ghost use Rattle.toml.specs.View.{items_view, table_view, view};
@@ -24,7 +25,7 @@ pub(crate) fn identities_of(
 ) -> Result<(Vec<Identity>, BTreeMap<Digest, usize>), SetupFault>
     ensures ok { IfOk result (λ r. spec.identities_of (table_view table.now) ≡ Ok r.0.items) }
     ensures index { IfOk result (λ r. IsIndexOf lists r.0.items r.1) }
-    ensures fault { IfErr result (λ f. (f ≡ SetupFault.OutOfMemory) ⊎ (spec.identities_of (table_view table.now) ≡ Err f)) }
+    ensures fault { FaultsAs SetupFault.OutOfMemory (spec.identities_of (table_view table.now)) result }
 {
     match rows_of(alloc, table, "identity") {
         Ok(rows) => identities_from(alloc, rows),
@@ -40,7 +41,7 @@ fn identities_from(
     requires { length rows.now < 2 ^ 32 }
     ensures ok { IfOk result (λ r. spec.identities_from 0 [] (items_view rows.now) ≡ Ok r.0.items) }
     ensures index { IfOk result (λ r. IsIndexOf lists r.0.items r.1) }
-    ensures fault { IfErr result (λ f. (f ≡ SetupFault.OutOfMemory) ⊎ (spec.identities_from 0 [] (items_view rows.now) ≡ Err f)) }
+    ensures fault { FaultsAs SetupFault.OutOfMemory (spec.identities_from 0 [] (items_view rows.now)) result }
 {
     let mut identities = Vec::new(alloc);
     let mut taken = BTreeMap::new(alloc);
@@ -61,7 +62,7 @@ fn identity_at(
 ) -> Result<Identity, SetupFault>
     ensures ok { IfOk result (λ identity. spec.identity_at number (keys taken.old) (view row.now) ≡ Ok identity) }
     ensures taken { IfOk result (λ identity. Takes number identity.tokens taken.old taken.new) }
-    ensures fault { IfErr result (λ f. (f ≡ SetupFault.OutOfMemory) ⊎ (spec.identity_at number (keys taken.old) (view row.now) ≡ Err f)) }
+    ensures fault { FaultsAs SetupFault.OutOfMemory (spec.identity_at number (keys taken.old) (view row.now)) result }
 {
     let identity = id_at(alloc, row, number, "id", "identity.id")?;
     let name = name_at(alloc, row, number, "identity.name")?;
@@ -79,7 +80,7 @@ fn identity_at(
 pub(crate) fn collections_of(alloc: Global, table: &Table) -> Result<Vec<Collection>, SetupFault>
     ensures ok { IfOk result (λ v. spec.collections_of (table_view table.now) ≡ Ok v.items) }
     ensures few { IfOk result (λ v. length v.items < 2 ^ 32) }
-    ensures fault { IfErr result (λ f. (f ≡ SetupFault.OutOfMemory) ⊎ (spec.collections_of (table_view table.now) ≡ Err f)) }
+    ensures fault { FaultsAs SetupFault.OutOfMemory (spec.collections_of (table_view table.now)) result }
 {
     match rows_of(alloc, table, "collection") {
         Ok(rows) => collections_from(alloc, rows),
@@ -92,7 +93,7 @@ fn collections_from(alloc: Global, rows: &[Value]) -> Result<Vec<Collection>, Se
     requires { length rows.now < 2 ^ 32 }
     ensures ok { IfOk result (λ v. spec.collections_from 0 (items_view rows.now) ≡ Ok v.items) }
     ensures few { IfOk result (λ v. length v.items < 2 ^ 32) }
-    ensures fault { IfErr result (λ f. (f ≡ SetupFault.OutOfMemory) ⊎ (spec.collections_from 0 (items_view rows.now) ≡ Err f)) }
+    ensures fault { FaultsAs SetupFault.OutOfMemory (spec.collections_from 0 (items_view rows.now)) result }
 {
     let mut collections = Vec::new(alloc);
     for number in 0..rows.len() {
@@ -106,7 +107,7 @@ fn collections_from(alloc: Global, rows: &[Value]) -> Result<Vec<Collection>, Se
 #[tactic(auto, unfolding(crate::specs::Grammar::collection_at))]
 fn collection_at(alloc: Global, row: &Value, number: u32) -> Result<Collection, SetupFault>
     ensures ok { IfOk result (λ collection. spec.collection_at number (view row.now) ≡ Ok collection) }
-    ensures fault { IfErr result (λ f. (f ≡ SetupFault.OutOfMemory) ⊎ (spec.collection_at number (view row.now) ≡ Err f)) }
+    ensures fault { FaultsAs SetupFault.OutOfMemory (spec.collection_at number (view row.now)) result }
 {
     let id = id_at(alloc, row, number, "id", "collection.id")?;
     let name = name_at(alloc, row, number, "collection.name")?;

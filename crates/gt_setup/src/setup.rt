@@ -1,6 +1,7 @@
 ghost use Rattle.gt_setup.specs.Setup.{collection_of, home_of, id_of, identity_of, lists, name_of, owner_of, who_of};
 ghost use Rattle.gt_setup.specs.Grammar.{parts_of, setup_of, table_of, told_apart};
 ghost use Rattle.gt_setup.specs.Indexed.{IsIndexOf, setup_from};
+ghost use Rattle.gt_values.specs.Results.{FaultsAs};
 ghost use Rattle.std.specs.Option.{option_copied};
 ghost use Rattle.std.specs.Prelude.{◌≡◌, ◌<◌, ◌≤◌, ◌^◌, ◌⊎◌, IfErr, IfOk, IfSome, length, option_map};
 ghost use Rattle.toml.specs.View.{table_view};
@@ -52,7 +53,7 @@ impl Setup {
     #[tactic(auto, unfolding(crate::specs::Grammar::setup_of))]
     pub fn read(alloc: Global, bytes: &[u8]) -> Result<Setup, SetupFault>
         ensures value { IfOk result (λ setup. setup_of bytes.now ≡ Ok setup) }
-        ensures fault { IfErr result (λ f. (f ≡ SetupFault.OutOfMemory) ⊎ (setup_of bytes.now ≡ Err f)) }
+        ensures fault { FaultsAs SetupFault.OutOfMemory (setup_of bytes.now) result }
 
         // What is too long is told as such, whatever memory there is.
         ensures memory { IfErr result (λ f. f ≡ SetupFault.OutOfMemory → length bytes.now ≤ 1048576) }
@@ -78,7 +79,7 @@ impl Setup {
         requires digests { IsIndexOf lists parts.identities.items parts.by_digest }
         ensures value { IfOk result (λ setup. setup ≡ setup_from parts) }
         ensures apart { IfOk result (λ setup. told_apart (setup_from parts) ≡ Ok setup) }
-        ensures fault { IfErr result (λ f. (f ≡ SetupFault.OutOfMemory) ⊎ (told_apart (setup_from parts) ≡ Err f)) }
+        ensures fault { FaultsAs SetupFault.OutOfMemory (told_apart (setup_from parts)) result }
     {
         let by_id = identity_places(alloc, &parts.identities)?;
         let by_collection = collection_places(alloc, &parts.collections)?;
@@ -186,7 +187,7 @@ fn parts_of(alloc: Global, table: &Table) -> Result<Parts, SetupFault>
     ensures value { IfOk result (λ parts. parts_of (table_view table.now) ≡ Ok (setup_from parts)) }
     ensures few { IfOk result (λ parts. length parts.collections.items < 2 ^ 32) }
     ensures digests { IfOk result (λ parts. IsIndexOf lists parts.identities.items parts.by_digest) }
-    ensures fault { IfErr result (λ f. (f ≡ SetupFault.OutOfMemory) ⊎ (parts_of (table_view table.now) ≡ Err f)) }
+    ensures fault { FaultsAs SetupFault.OutOfMemory (parts_of (table_view table.now)) result }
 {
     let namespace = namespace_of(alloc, table)?;
     let (identities, by_digest) = identities_of(alloc, table)?;

@@ -1,6 +1,7 @@
+// What no clause says: texts from outside, each getter once, and what a fault prints. Faults are compared as the lines they print.
 use crate::{Setup, SetupFault};
 use gt_paths::Path;
-use gt_values::{Id, Text};
+use gt_values::Id;
 use std::alloc::Global;
 use std::test::Fail;
 
@@ -16,7 +17,7 @@ const LINES: [&str; 26] = [
     "id = \"00000000-0000-4000-8000-0000000000b2\"",
     "name = \"bob\"",
     "tokens = [\"2cf24dba5fb0a30e26e83b2ac5b9e29e1b161e5c1fa7425e73043362938b9824\"]",
-    "groups = []",
+    "groups = [\"00000000000040008000000000000001\", \"{00000000-0000-4000-8000-000000000002}\"]",
     "[[collection]]",
     "id = \"00000000-0000-4000-8000-0000000000c0\"",
     "name = \"Lab\"",
@@ -34,13 +35,32 @@ const LINES: [&str; 26] = [
     "home = \"/\"",
 ];
 
-// The lines, with others in these places.
-fn edited(alloc: Global, edits: &[(usize, &str)]) -> Result<String, Fail> {
+// Further lines that stand in place of others in the tables below.
+const ANN_AGAIN: &str = "id = \"00000000-0000-4000-8000-0000000000a1\"";
+
+const LAB_AGAIN: &str = "id = \"00000000-0000-4000-8000-0000000000c0\"";
+
+const NO_OWNER: &str = "owner = \"00000000-0000-4000-8000-0000000000c0\"";
+
+const TOKEN_OF_ANN: &str =
+    "tokens = [\"ba7816bf8f01cfea414140de5dae2223b00361a396177a9cb410ff61f20015ad\"]";
+
+const TOKEN_IN_CAPITALS: &str =
+    "tokens = [\"BA7816BF8F01CFEA414140DE5DAE2223B00361A396177A9CB410FF61F20015AD\"]";
+
+const TOKEN_TWICE: &str =
+    "tokens = [\"2cf24dba5fb0a30e26e83b2ac5b9e29e1b161e5c1fa7425e73043362938b9824\", \"2cf24dba5fb0a30e26e83b2ac5b9e29e1b161e5c1fa7425e73043362938b9824\"]";
+
+// The lines, with others in two places; the same place twice is one.
+fn edited(alloc: Global, first: (usize, &str), second: (usize, &str)) -> Result<String, Fail> {
     let mut text = String::new(alloc);
     for (at, line) in LINES.iter().enumerate() {
-        let line = match edits.iter().find(|edit| edit.0 == at) {
-            Some(edit) => edit.1,
-            None => *line,
+        let line = if at == first.0 {
+            first.1
+        } else if at == second.0 {
+            second.1
+        } else {
+            *line
         };
         text.push_str(line)?;
         text.push('\n')?;
@@ -48,350 +68,231 @@ fn edited(alloc: Global, edits: &[(usize, &str)]) -> Result<String, Fail> {
     Ok(text)
 }
 
-// What the lines are refused with, where others stand in these places.
-fn fault_of(alloc: Global, edits: &[(usize, &str)]) -> Result<Option<SetupFault>, Fail> {
-    Ok(Setup::read(alloc, edited(alloc, edits)?.as_bytes()).err())
-}
-
-fn missing(alloc: Global, key: &str, row: u32) -> Result<Option<SetupFault>, Fail> {
-    let key = Text::copy_of(alloc, key)?;
-    Ok(Some(SetupFault::Missing { key, row }))
-}
-
-fn bad(alloc: Global, key: &str, row: u32) -> Result<Option<SetupFault>, Fail> {
-    let key = Text::copy_of(alloc, key)?;
-    Ok(Some(SetupFault::BadValue { key, row }))
+// What the reading of a text prints: its fault, or `read`.
+fn told(alloc: Global, text: &[u8]) -> Result<String, Fail> {
+    match Setup::read(alloc, text) {
+        Ok(_) => Ok(String::from_str(alloc, "read")?),
+        Err(fault) => Ok(format!(in alloc; "{fault}")?),
+    }
 }
 
 fn id(last: u8) -> Id {
     Id::from_bytes([0, 0, 0, 0, 0, 0, 0x40, 0, 0x80, 0, 0, 0, 0, 0, 0, last])
 }
 
-// The identity that lists the token's digest.
-fn owner_of_token(setup: &Setup, token: &str) -> Option<Id> {
-    setup.identity_of(token).map(|who| who.identity)
+fn worked(alloc: Global) -> Result<Setup, Fail> {
+    let whole = (0, LINES[0]);
+    Ok(Setup::read(alloc, edited(alloc, whole, whole)?.as_bytes())?)
+}
+
+// The last byte of the identity that lists the token's digest, and how many groups it has.
+fn owner_of_token(setup: &Setup, token: &str) -> Option<(u8, usize)> {
+    setup
+        .identity_of(token)
+        .map(|who| (who.identity.as_bytes()[15], who.groups.len()))
 }
 
 #[test]
 fn every_getter_answers(rt: HostRuntime) -> Result<(), Fail> {
     let alloc = rt.alloc();
-    let setup = Setup::read(alloc, edited(alloc, &[])?.as_bytes())?;
+    let setup = worked(alloc)?;
     assert_eq!(rt; setup.namespace(), 7);
     assert_eq!(rt; setup.collections(), 3);
-
-    assert_eq!(rt; owner_of_token(&setup, "abc"), Some(id(0xa1)));
-    assert_eq!(rt; owner_of_token(&setup, "hello"), Some(id(0xb2)));
+    assert_eq!(rt; owner_of_token(&setup, "abc"), Some((0xa1, 0)));
+    assert_eq!(rt; owner_of_token(&setup, "hello"), Some((0xb2, 2)));
     assert_eq!(rt; owner_of_token(&setup, "abd"), None);
     assert_eq!(rt; owner_of_token(&setup, ""), None);
-
-    assert!(rt; setup.who(&id(0xa1)).is_some());
     assert!(rt; setup.who(&id(0xb2)).is_some());
     assert!(rt; setup.who(&id(0xc0)).is_none());
-
-    assert_eq!(rt; setup.collection_of(&id(0xc0)), Some(0));
     assert_eq!(rt; setup.collection_of(&id(0xc2)), Some(2));
     assert_eq!(rt; setup.collection_of(&id(0xa1)), None);
+    Ok(())
+}
 
-    let expected = [
-        (0xc0, "Lab", 0xa1, "/home/ann"),
-        (0xc1, "Store", 0xa1, "/"),
-        (0xc2, "Vault", 0xb2, "/"),
+#[test]
+fn collections_are_told_by_number(rt: HostRuntime) -> Result<(), Fail> {
+    let alloc = rt.alloc();
+    let setup = worked(alloc)?;
+    let rows = [
+        (0_u32, 0xc0, "Lab", 0xa1, "/home/ann"),
+        (1, 0xc1, "Store", 0xa1, "/"),
+        (2, 0xc2, "Vault", 0xb2, "/"),
     ];
-    for (number, row) in expected.iter().enumerate() {
-        let collection = number as u32;
-        if collection < setup.collections() {
-            assert_eq!(rt; setup.id_of(collection), id(row.0));
-            assert_eq!(rt; setup.name_of(collection), row.1);
-            assert_eq!(rt; setup.owner_of(collection), id(row.2));
-            let home = Path::read(alloc, row.3, &Path::root(alloc))?;
-            assert_eq!(rt; *setup.home_of(collection), home);
+    for (number, own, name, owner, home) in rows {
+        if number < setup.collections() {
+            assert_eq!(rt; setup.id_of(number), id(own));
+            assert_eq!(rt; setup.name_of(number), name);
+            assert_eq!(rt; setup.owner_of(number), id(owner));
+            let home = Path::read(alloc, home, &Path::root(alloc))?;
+            assert_eq!(rt; *setup.home_of(number), home);
         }
     }
     Ok(())
 }
 
 #[test]
-fn groups_belong_to_their_identity(rt: HostRuntime) -> Result<(), Fail> {
+fn the_first_fault_is_told(rt: HostRuntime) -> Result<(), Fail> {
     let alloc = rt.alloc();
-    let groups =
-        "groups = [\"00000000000040008000000000000001\", \"{00000000-0000-4000-8000-000000000002}\"]";
-    let setup = Setup::read(alloc, edited(alloc, &[(10, groups)])?.as_bytes())?;
-    match setup.who(&id(0xb2)) {
-        Some(who) => assert_eq!(rt; who.groups.as_slice(), [id(1), id(2)].as_slice()),
-        None => assert!(rt; false),
-    }
-    match setup.identity_of("hello") {
-        Some(who) => assert_eq!(rt; who.groups.len(), 2),
-        None => assert!(rt; false),
-    }
-    match setup.identity_of("abc") {
-        Some(who) => assert_eq!(rt; who.groups.len(), 0),
-        None => assert!(rt; false),
-    }
-    Ok(())
-}
-
-#[test]
-fn each_key_is_required(rt: HostRuntime) -> Result<(), Fail> {
-    let alloc = rt.alloc();
-    let keys = [
-        (0, "namespace", 0),
-        (2, "identity.id", 0),
-        (3, "identity.name", 0),
-        (4, "identity.tokens", 0),
-        (5, "identity.groups", 0),
-        (7, "identity.id", 1),
-        (8, "identity.name", 1),
-        (9, "identity.tokens", 1),
-        (10, "identity.groups", 1),
-        (12, "collection.id", 0),
-        (13, "collection.name", 0),
-        (14, "collection.owner", 0),
-        (15, "collection.home", 0),
-        (22, "collection.id", 2),
-        (23, "collection.name", 2),
-        (24, "collection.owner", 2),
-        (25, "collection.home", 2),
-    ];
-    for (line, key, row) in keys {
-        assert_eq!(rt;
-            fault_of(alloc, &[(line, "")])?,
-            missing(alloc, key, row)?,
-            "{key}"
-        );
-    }
-    assert_eq!(rt;
-        Setup::read(alloc, b"").err(),
-        missing(alloc, "namespace", 0)?
-    );
-    assert_eq!(rt;
-        Setup::read(alloc, b"namespace = 7").err(),
-        missing(alloc, "identity", 0)?
-    );
-    let identity =
-        b"namespace = 7\n[[identity]]\nid = \"00000000-0000-4000-8000-0000000000a1\"\nname = \"ann\"\ntokens = []\ngroups = []\n";
-    assert_eq!(rt;
-        Setup::read(alloc, identity).err(),
-        missing(alloc, "collection", 0)?
-    );
-    Ok(())
-}
-
-#[test]
-fn each_value_is_of_its_type_and_range(rt: HostRuntime) -> Result<(), Fail> {
-    let alloc = rt.alloc();
-    let values = [
-        (0, "namespace = -1", "namespace", 0),
-        (0, "namespace = 4294967296", "namespace", 0),
-        (0, "namespace = 7.0", "namespace", 0),
-        (0, "namespace = \"7\"", "namespace", 0),
-        (2, "id = 7", "identity.id", 0),
-        (2, "id = \"ann\"", "identity.id", 0),
-        (3, "name = \"\"", "identity.name", 0),
-        (3, "name = [\"ann\"]", "identity.name", 0),
-        (4, "tokens = \"abc\"", "identity.tokens", 0),
-        (4, "tokens = [7]", "identity.tokens", 0),
-        (4, "tokens = [\"abc\"]", "identity.tokens", 0),
+    // Two lines that stand in other places, and what is told.
+    let cases = [
+        ((0, ""), (0, ""), "`namespace` is missing in row 0"),
+        ((2, ""), (2, ""), "`identity.id` is missing in row 0"),
+        ((10, ""), (10, ""), "`identity.groups` is missing in row 1"),
+        ((25, ""), (25, ""), "`collection.home` is missing in row 2"),
+        // A value that is not allowed, and behind it a missing key.
         (
-            4,
-            "tokens = [\"BA7816BF8F01CFEA414140DE5DAE2223B00361A396177A9CB410FF61F20015AD\"]",
-            "identity.tokens",
-            0,
-        ),
-        (
-            9,
-            "tokens = [\"ba7816bf8f01cfea414140de5dae2223b00361a396177a9cb410ff61f20015ad\"]",
-            "identity.tokens",
-            1,
-        ),
-        (
-            9,
-            "tokens = [\"2cf24dba5fb0a30e26e83b2ac5b9e29e1b161e5c1fa7425e73043362938b9824\", \"2cf24dba5fb0a30e26e83b2ac5b9e29e1b161e5c1fa7425e73043362938b9824\"]",
-            "identity.tokens",
-            1,
-        ),
-        (
-            5,
-            "groups = \"00000000-0000-4000-8000-000000000001\"",
-            "identity.groups",
-            0,
-        ),
-        (5, "groups = [\"ann\"]", "identity.groups", 0),
-        (12, "id = true", "collection.id", 0),
-        (13, "name = \"\"", "collection.name", 0),
-        (18, "name = 1", "collection.name", 1),
-        (24, "owner = \"bob\"", "collection.owner", 2),
-        (15, "home = \"home\"", "collection.home", 0),
-        (15, "home = \"//\"", "collection.home", 0),
-        (15, "home = 1", "collection.home", 0),
-    ];
-    for (line, value, key, row) in values {
-        assert_eq!(rt;
-            fault_of(alloc, &[(line, value)])?,
-            bad(alloc, key, row)?,
-            "{value}"
-        );
-    }
-    let arrays = [
-        "identity = 7",
-        "identity = []",
-        "identity = [7]",
-        "identity = {}",
-    ];
-    for array in arrays {
-        let text = format!(in alloc; "namespace = 7\n{array}\n")?;
-        assert_eq!(rt;
-            Setup::read(alloc, text.as_bytes()).err(),
-            bad(alloc, "identity", 0)?
-        );
-    }
-    Ok(())
-}
-
-#[test]
-fn names_have_1_to_255_bytes(rt: HostRuntime) -> Result<(), Fail> {
-    let alloc = rt.alloc();
-    let mut line = String::from_str(alloc, "name = \"")?;
-    for _ in 0..255 {
-        line.push('n')?;
-    }
-    let longest = format!(in alloc; "{line}\"")?;
-    assert_eq!(rt; fault_of(alloc, &[(3, longest.as_str())])?, None);
-    let longer = format!(in alloc; "{line}n\"")?;
-    assert_eq!(rt;
-        fault_of(alloc, &[(3, longer.as_str())])?,
-        bad(alloc, "identity.name", 0)?
-    );
-    Ok(())
-}
-
-#[test]
-fn setup_faults(rt: HostRuntime) -> Result<(), Fail> {
-    let alloc = rt.alloc();
-    let lab_again = (17, "id = \"00000000-0000-4000-8000-0000000000c0\"");
-    assert_eq!(rt;
-        fault_of(alloc, &[lab_again])?,
-        Some(SetupFault::Twice { id: id(0xc0) })
-    );
-    let stranger = (19, "owner = \"00000000-0000-4000-8000-0000000000c0\"");
-    assert_eq!(rt;
-        fault_of(alloc, &[stranger])?,
-        Some(SetupFault::UnknownIdentity { id: id(0xc0) })
-    );
-    assert_eq!(rt;
-        fault_of(alloc, &[(0, "namespace = -1")])?,
-        bad(alloc, "namespace", 0)?
-    );
-    assert_eq!(rt;
-        Setup::read(alloc, b"namespace = ").err(),
-        Some(SetupFault::NotToml)
-    );
-    assert_eq!(rt;
-        Setup::read(alloc, b"namespace = 7 # \xff").err(),
-        Some(SetupFault::NotToml)
-    );
-    Ok(())
-}
-
-#[test]
-fn first_fault_is_told(rt: HostRuntime) -> Result<(), Fail> {
-    let alloc = rt.alloc();
-    // Row by row, not key by key.
-    assert_eq!(rt;
-        fault_of(alloc, &[(5, ""), (7, "")])?,
-        missing(alloc, "identity.groups", 0)?
-    );
-    // In a row by the order of keys.
-    assert_eq!(rt;
-        fault_of(alloc, &[(12, "id = 1"), (15, "")])?,
-        bad(alloc, "collection.id", 0)?
-    );
-    assert_eq!(rt;
-        fault_of(alloc, &[(0, "namespace = -1"), (2, "")])?,
-        bad(alloc, "namespace", 0)?
-    );
-    // What is wrong with a value comes before what is wrong between rows.
-    let ann_again = (7, "id = \"00000000-0000-4000-8000-0000000000a1\"");
-    let lab_again = (17, "id = \"00000000-0000-4000-8000-0000000000c0\"");
-    let stranger = (14, "owner = \"00000000-0000-4000-8000-0000000000c0\"");
-    assert_eq!(rt;
-        fault_of(alloc, &[ann_again, (25, "")])?,
-        missing(alloc, "collection.home", 2)?
-    );
-    assert_eq!(rt;
-        fault_of(alloc, &[ann_again, lab_again, stranger])?,
-        Some(SetupFault::Twice { id: id(0xa1) })
-    );
-    assert_eq!(rt;
-        fault_of(alloc, &[lab_again, stranger])?,
-        Some(SetupFault::Twice { id: id(0xc0) })
-    );
-    // An identity and a collection may have one identifier.
-    let lab_as_ann = (12, "id = \"00000000-0000-4000-8000-0000000000a1\"");
-    assert_eq!(rt; fault_of(alloc, &[lab_as_ann])?, None);
-    Ok(())
-}
-
-#[test]
-fn setup_has_at_most_1048576_bytes(rt: HostRuntime) -> Result<(), Fail> {
-    let alloc = rt.alloc();
-    let mut text = edited(alloc, &[])?;
-    text.push('#')?;
-    let mut bytes = vec![in alloc; b'-'; 1_048_576]?;
-    let len = text.len();
-    if len > bytes.len() {
-        return Ok(());
-    }
-    bytes[..len].copy_from_slice(text.as_bytes());
-    assert_eq!(rt; Setup::read(alloc, &bytes).err(), None);
-    bytes.push(b'-')?;
-    assert_eq!(rt;
-        Setup::read(alloc, &bytes).err(),
-        Some(SetupFault::TooLong { bytes: 1_048_577 })
-    );
-    bytes[0] = 0xff;
-    assert_eq!(rt;
-        Setup::read(alloc, &bytes).err(),
-        Some(SetupFault::TooLong { bytes: 1_048_577 })
-    );
-    Ok(())
-}
-
-#[test]
-fn faults_are_told_in_a_line(rt: HostRuntime) -> Result<(), Fail> {
-    let alloc = rt.alloc();
-    let lines = [
-        (SetupFault::NotToml, "the setup is not TOML in UTF-8"),
-        (
-            SetupFault::Missing {
-                key: Text::copy_of(alloc, "identity.name")?,
-                row: 1,
-            },
-            "`identity.name` is missing in row 1",
-        ),
-        (
-            SetupFault::BadValue {
-                key: Text::copy_of(alloc, "namespace")?,
-                row: 0,
-            },
+            (0, "namespace = -1"),
+            (2, ""),
             "`namespace` in row 0 has a value that is not allowed",
         ),
         (
-            SetupFault::Twice { id: id(0xc0) },
+            (0, "namespace = 4294967296"),
+            (2, ""),
+            "`namespace` in row 0 has a value that is not allowed",
+        ),
+        (
+            (0, "namespace = 7.0"),
+            (2, ""),
+            "`namespace` in row 0 has a value that is not allowed",
+        ),
+        (
+            (3, "name = \"\""),
+            (4, ""),
+            "`identity.name` in row 0 has a value that is not allowed",
+        ),
+        (
+            (4, TOKEN_IN_CAPITALS),
+            (5, ""),
+            "`identity.tokens` in row 0 has a value that is not allowed",
+        ),
+        (
+            (9, TOKEN_OF_ANN),
+            (10, ""),
+            "`identity.tokens` in row 1 has a value that is not allowed",
+        ),
+        (
+            (9, TOKEN_TWICE),
+            (10, ""),
+            "`identity.tokens` in row 1 has a value that is not allowed",
+        ),
+        (
+            (5, "groups = [\"ann\"]"),
+            (7, ""),
+            "`identity.groups` in row 0 has a value that is not allowed",
+        ),
+        (
+            (18, "name = 1"),
+            (24, ""),
+            "`collection.name` in row 1 has a value that is not allowed",
+        ),
+        (
+            (24, "owner = \"bob\""),
+            (25, ""),
+            "`collection.owner` in row 2 has a value that is not allowed",
+        ),
+        (
+            (15, "home = \"//\""),
+            (17, ""),
+            "`collection.home` in row 0 has a value that is not allowed",
+        ),
+        // Row by row, not key by key; values before what is wrong between rows; identifiers before owners.
+        ((5, ""), (7, ""), "`identity.groups` is missing in row 0"),
+        (
+            (7, ANN_AGAIN),
+            (25, ""),
+            "`collection.home` is missing in row 2",
+        ),
+        (
+            (7, ANN_AGAIN),
+            (14, NO_OWNER),
+            "the identifier 00000000-0000-4000-8000-0000000000a1 stands twice",
+        ),
+        (
+            (17, LAB_AGAIN),
+            (14, NO_OWNER),
             "the identifier 00000000-0000-4000-8000-0000000000c0 stands twice",
         ),
         (
-            SetupFault::UnknownIdentity { id: id(0xc0) },
+            (14, NO_OWNER),
+            (14, NO_OWNER),
             "the owner 00000000-0000-4000-8000-0000000000c0 is no identity of the setup",
         ),
+        // An identity and a collection may have one identifier.
+        ((12, ANN_AGAIN), (12, ANN_AGAIN), "read"),
+    ];
+    for (first, second, line) in cases {
+        let text = edited(alloc, first, second)?;
+        assert_eq!(rt; told(alloc, text.as_bytes())?.as_str(), line);
+    }
+    Ok(())
+}
+
+#[test]
+fn short_texts_are_judged(rt: HostRuntime) -> Result<(), Fail> {
+    let alloc = rt.alloc();
+    let cases: [(&[u8], &str); 7] = [
+        (b"", "`namespace` is missing in row 0"),
+        (b"namespace = 7", "`identity` is missing in row 0"),
         (
-            SetupFault::TooLong { bytes: 1_048_577 },
+            b"namespace = 7\nidentity = 7",
+            "`identity` in row 0 has a value that is not allowed",
+        ),
+        (
+            b"namespace = 7\nidentity = []",
+            "`identity` in row 0 has a value that is not allowed",
+        ),
+        (
+            b"namespace = 7\nidentity = [7]",
+            "`identity` in row 0 has a value that is not allowed",
+        ),
+        (b"namespace = ", "the setup is not TOML in UTF-8"),
+        (b"namespace = 7 # \xff", "the setup is not TOML in UTF-8"),
+    ];
+    for (text, line) in cases {
+        assert_eq!(rt; told(alloc, text)?.as_str(), line);
+    }
+    Ok(())
+}
+
+#[test]
+fn names_and_sizes_at_their_limits(rt: HostRuntime) -> Result<(), Fail> {
+    let alloc = rt.alloc();
+    let mut name = String::from_str(alloc, "name = \"")?;
+    for _ in 0..255 {
+        name.push('n')?;
+    }
+    for (end, line) in [
+        ("\"", "read"),
+        (
+            "n\"",
+            "`identity.name` in row 0 has a value that is not allowed",
+        ),
+    ] {
+        let longest = format!(in alloc; "{name}{end}")?;
+        let text = edited(alloc, (3, longest.as_str()), (3, ""))?;
+        assert_eq!(rt; told(alloc, text.as_bytes())?.as_str(), line);
+    }
+    let comment = edited(alloc, (0, LINES[0]), (0, ""))?;
+    for (size, line) in [
+        (1_048_576, "read"),
+        (
+            1_048_577,
             "the setup has 1048577 bytes, and may have 1048576",
         ),
-        (SetupFault::OutOfMemory, "out of memory"),
-    ];
-    for (fault, line) in &lines {
-        assert_eq!(rt; format!(in alloc; "{fault}")?.as_str(), *line);
+    ] {
+        let mut bytes = vec![in alloc; b'\n'; size]?;
+        let len = comment.len();
+        if len <= bytes.len() {
+            bytes[..len].copy_from_slice(comment.as_bytes());
+        }
+        assert_eq!(rt; told(alloc, &bytes)?.as_str(), line);
     }
+    Ok(())
+}
+
+#[test]
+fn want_of_memory_is_told(rt: HostRuntime) -> Result<(), Fail> {
+    let text = format!(in rt.alloc(); "{}", SetupFault::OutOfMemory)?;
+    assert_eq!(rt; text.as_str(), "out of memory");
     Ok(())
 }

@@ -2,6 +2,9 @@ pub mod Command
 pub mod Conflict
 pub mod Event
 pub mod Forms
+pub mod Kept
+pub mod Listing
+pub mod Outcome
 pub mod Reply
 pub mod SpecForms
 pub mod SpecParts

@@ -1,5 +1,6 @@
-use crate::rule::AccessSpec;
-use crate::spec::TransferSpec;
+use crate::change::{DeadlineChange, LabelChange};
+use crate::rule::{AccessSpec, PauseSpec};
+use crate::spec::{DeleteSpec, TransferSpec};
 use gt_values::Id;
 
 /// A request, as read. Tasks and rules are named by the identifiers that stand in the request, collections by their
@@ -11,11 +12,23 @@ pub enum Command {
         submission: Id,
         spec: TransferSpec,
     },
+    SubmitDelete {
+        submission: Id,
+        spec: DeleteSpec,
+    },
     ListTasks {
         limit: u32,
         offset: u64,
     },
     ShowTask {
+        task: Id,
+    },
+    UpdateTask {
+        task: Id,
+        label: LabelChange,
+        deadline: DeadlineChange,
+    },
+    CancelTask {
         task: Id,
     },
     ListSuccesses {
@@ -50,5 +63,15 @@ pub enum Command {
         collection: u32,
         rule: Id,
         write: bool,
+    },
+    ListPauses,
+    AddPause {
+        spec: PauseSpec,
+    },
+    ShowPause {
+        rule: Id,
+    },
+    EndPause {
+        rule: Id,
     },
 }

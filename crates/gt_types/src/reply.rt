@@ -1,6 +1,6 @@
 use crate::code::{Code, Reason, Status};
-use crate::rule::AccessSpec;
-use crate::spec::Spec;
+use crate::options::TaskOptions;
+use crate::rule::{AccessSpec, PauseSpec};
 use gt_paths::Path;
 use gt_values::{Id, Moment, Sequence, Text};
 
@@ -24,13 +24,13 @@ pub struct Counters {
     pub faults: u64,
 }
 
-/// What a task shows. Its label and deadline are those in force, which an update may have changed; the specification
-/// keeps what was submitted.
+/// What a task shows. Its label and deadline are those in force, which an update may have changed; the options are those
+/// that were submitted.
 #[derive(Debug, Drop)]
 pub struct TaskDocument {
     pub number: u64,
     pub owner: Id,
-    pub spec: Spec,
+    pub options: TaskOptions,
     pub label: Option<Text>,
     pub deadline: Option<Moment>,
     pub requested: Moment,
@@ -61,6 +61,13 @@ pub struct SkippedDocument {
 pub struct AccessDocument {
     pub number: u64,
     pub spec: AccessSpec,
+}
+
+/// A live pause rule.
+#[derive(Debug, Drop)]
+pub struct PauseDocument {
+    pub number: u64,
+    pub spec: PauseSpec,
 }
 
 /// What was asked of a list, and the number of all its rows.
@@ -117,6 +124,9 @@ pub enum Reply {
     AccessCreated {
         rule: u64,
     },
+    PauseCreated {
+        rule: u64,
+    },
     Task(TaskDocument),
     Tasks {
         rows: Sequence<TaskDocument>,
@@ -134,6 +144,10 @@ pub enum Reply {
     AccessList {
         rows: Sequence<AccessDocument>,
         collection: u32,
+    },
+    Pause(PauseDocument),
+    PauseList {
+        rows: Sequence<PauseDocument>,
     },
     Endpoint {
         collection: u32,

@@ -2,7 +2,7 @@ use gt_paths::Path;
 use gt_values::{Id, Sequence, Text};
 
 /// Whom an access rule speaks of. `Anonymous` and `AllAuthenticated` match every caller.
-#[derive(Clone, Copy, Debug, PartialEq, Eq)]
+#[derive(Clone, Copy, Debug, PartialEq, Eq, PartialOrd, Ord)]
 pub enum Principal {
     Identity(Id),
     Group(Id),

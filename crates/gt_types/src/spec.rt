@@ -1,3 +1,4 @@
+use crate::kept::Kept;
 use crate::listing::Kind;
 use gt_paths::Path;
 use gt_values::{Exact, Moment, Sequence, Text};
@@ -16,13 +17,6 @@ pub struct FilterRule {
     pub include: bool,
     pub kind: Option<Kind>,
     pub pattern: Text,
-}
-
-/// Six members of a document that have no effect, as bits 0 to 5: which were given, and which of those were true.
-#[derive(Clone, Copy, Debug, PartialEq, Eq)]
-pub struct Kept {
-    pub given: u8,
-    pub set: u8,
 }
 
 /// What a transfer document asks. Collections are numbered from 0 in the order of the setup.

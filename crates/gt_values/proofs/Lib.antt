@@ -1,4 +1,5 @@
 pub mod DateLemmas
+pub mod DecimalLemmas
 pub mod FormLemmas
 pub mod IdLemmas
 pub mod MadeLemmas

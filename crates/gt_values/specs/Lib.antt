@@ -1,4 +1,6 @@
+pub mod Ascii
 pub mod Capped
+pub mod Decimal
 pub mod Forms
 pub mod Grammar
 pub mod IdText
@@ -8,4 +10,5 @@ pub mod Life
 pub mod Moment
 pub mod Profile
 pub mod Reads
+pub mod Results
 pub mod Rows

@@ -1,5 +1,6 @@
 -- Moments: their range, what a text stands for, and what is printed (the profile of RFC 3339 that is read and written).
 use Rattle.std.specs.Prelude.{List, None, Option, Some, [], codes, int_le, pos, suc, unsigned_abs, zero, ℕ, ℤ, if◌then◌else◌, ◌%◌, ◌&&◌, ◌*ℤ◌, ◌+ℤ◌, ◌+◌, ◌++◌, ◌-ℤ◌, ◌/◌, ◌∷◌}
+use Rattle.gt_values.specs.Ascii.{colon, digit_zero, hyphen, upper_t}
 use Rattle.gt_values.specs.Grammar.{after_fraction, after_mark, clock, date, offset, ◌>>=◌}
 use Rattle.jiff_core.specs.Calendar.{days_from_civil}
 
@@ -23,7 +24,7 @@ moment_of text = do
 
 -- a number below 100 in two digits
 abbrev pub pad2 : ℕ → List ℕ
-pad2 n = (48 + n / 10) ∷ (48 + n % 10) ∷ []
+pad2 n = (digit_zero + n / 10) ∷ (digit_zero + n % 10) ∷ []
 
 -- a number below 10,000 in four digits
 abbrev pub pad4 : ℕ → List ℕ
@@ -51,6 +52,6 @@ unfoldable pub printed : ℕ → List ℕ
 printed moment =
     let day = pos (moment / 86_400) in
     let second = moment % 86_400 in
-    pad4 (year_of day) ++ 45 ∷ pad2 (month_of day) ++ 45 ∷ pad2 (day_of day)
-    ++ 84 ∷ pad2 (second / 3600) ++ 58 ∷ pad2 (second / 60 % 60) ++ 58 ∷ pad2 (second % 60)
+    pad4 (year_of day) ++ hyphen ∷ pad2 (month_of day) ++ hyphen ∷ pad2 (day_of day)
+    ++ upper_t ∷ pad2 (second / 3600) ++ colon ∷ pad2 (second / 60 % 60) ++ colon ∷ pad2 (second % 60)
     ++ codes "+00:00"

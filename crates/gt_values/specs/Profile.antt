@@ -2,6 +2,7 @@
 use Rattle.std.specs.Char.{is_ascii_digit}
 use Rattle.std.specs.List.{list_all}
 use Rattle.std.specs.Prelude.{IsTrue, List, Some, [], length, min, neg_ℤ, pos, ℕ, ℤ, ◌*ℤ◌, ◌*◌, ◌+ℤ◌, ◌+◌, ◌++◌, ◌-ℤ◌, ◌↔◌, ◌≡◌, ◌≤◌, ◌⊎◌, ◌∷◌}
+use Rattle.gt_values.specs.Ascii.{colon, full_stop, hyphen, lower_t, lower_z, plus, space, upper_t, upper_z}
 use Rattle.gt_values.specs.Grammar.{is_date}
 use Rattle.gt_values.specs.Moment.{last_moment, moment_of, pad2, pad4}
 use Rattle.jiff_core.specs.Calendar.{days_from_civil}
@@ -9,7 +10,7 @@ use Rattle.jiff_core.specs.Calendar.{days_from_civil}
 -- a dot and one to nine digits
 pub record IsFraction (text : List ℕ) : Type 0 where
   pub digits : List ℕ
-  pub text_is : text ≡ 46 ∷ digits
+  pub text_is : text ≡ full_stop ∷ digits
   pub are_digits : IsTrue (list_all is_ascii_digit digits)
   pub count : (1 ≤ length digits) × (length digits ≤ 9)
 
@@ -17,16 +18,16 @@ pub record IsFraction (text : List ℕ) : Type 0 where
 pub record IsOffset (sign : ℕ) (text : List ℕ) (seconds : ℕ) : Type 0 where
   pub hours : ℕ
   pub minutes : ℕ
-  pub text_is : text ≡ sign ∷ pad2 hours ++ 58 ∷ pad2 minutes
+  pub text_is : text ≡ sign ∷ pad2 hours ++ colon ∷ pad2 minutes
   pub within : (hours ≤ 23) × (minutes ≤ 59)
   pub seconds_are : seconds ≡ hours * 3600 + minutes * 60
 
 -- seconds east of UTC: nothing, `Z` or `z` for none, `+hh:mm` to the east, `-hh:mm` to the west
 abbrev pub IsZone : List ℕ → ℤ → Type 0
 IsZone text east =
-    ((east ≡ pos 0) × ((text ≡ []) ⊎ (text ≡ 90 ∷ []) ⊎ (text ≡ 122 ∷ [])))
-    ⊎ ((seconds : ℕ) × (east ≡ pos seconds) × IsOffset 43 text seconds)
-    ⊎ ((seconds : ℕ) × (east ≡ neg_ℤ (pos seconds)) × IsOffset 45 text seconds)
+    ((east ≡ pos 0) × ((text ≡ []) ⊎ (text ≡ upper_z ∷ []) ⊎ (text ≡ lower_z ∷ [])))
+    ⊎ ((seconds : ℕ) × (east ≡ pos seconds) × IsOffset plus text seconds)
+    ⊎ ((seconds : ℕ) × (east ≡ neg_ℤ (pos seconds)) × IsOffset hyphen text seconds)
 
 -- the text writes the moment: a date of the calendar, a mark, a time of day in which a second of 60 counts as 59, a
 -- fraction that doesn't count, and an offset
@@ -42,10 +43,10 @@ pub record WritesMoment (text : List ℕ) (moment : ℕ) : Type 0 where
   pub zone : List ℕ
   pub east : ℤ
   pub text_is :
-      text ≡ pad4 year ++ 45 ∷ pad2 month ++ 45 ∷ pad2 day ++ mark ∷ pad2 hour ++ 58 ∷ pad2 minute ++ 58 ∷ pad2 second
-      ++ fraction ++ zone
+      text ≡ pad4 year ++ hyphen ∷ pad2 month ++ hyphen ∷ pad2 day ++ mark ∷
+      pad2 hour ++ colon ∷ pad2 minute ++ colon ∷ pad2 second ++ fraction ++ zone
   pub date_is : (year ≤ 9999) × IsTrue (is_date year month day)
-  pub mark_is : (mark ≡ 84) ⊎ (mark ≡ 116) ⊎ (mark ≡ 32)
+  pub mark_is : (mark ≡ upper_t) ⊎ (mark ≡ lower_t) ⊎ (mark ≡ space)
   pub time_is : (hour ≤ 23) × (minute ≤ 59) × (second ≤ 60)
   pub fraction_is : (fraction ≡ []) ⊎ IsFraction fraction
   pub zone_is : IsZone zone east

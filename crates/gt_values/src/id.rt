@@ -2,7 +2,7 @@ ghost use Rattle.gt_values.specs.Forms.{is_id};
 ghost use Rattle.gt_values.specs.IdText as spec;
 ghost use Rattle.gt_values.specs.IdText.{id_of, printed_id};
 ghost use Rattle.gt_values.specs.Ident.{made_id};
-ghost use Rattle.std.specs.Prelude.{◌≡◌, ◌<◌, ◌^◌, IfOk, Some, string_bytes, true};
+ghost use Rattle.std.specs.Prelude.{◌≡◌, ◌<◌, ◌^◌, IfOk, IfSome, Some, string_bytes, true};
 
 use crate::bytes;
 use crate::sequence::Exact;
@@ -30,13 +30,17 @@ impl Id {
     /// The identifier that a text stands for: hyphenated, without hyphens, hyphenated in braces, or hyphenated after
     /// `urn:uuid:`. Hexadecimal digits may be of either case, `urn:uuid:` is in lower case. `None` for any other text.
     pub fn read(text: &str) -> Option<Id>
-        ensures { result ≡ id_of text.now }
+        ensures value { result ≡ id_of text.now }
+        ensures fits { IfSome result (λ id. is_id id ≡ true) }
     {
         if opens_otherwise(text) {
             return None;
         }
         match Uuid::parse_str(text) {
-            Ok(inner) => Some(Id { inner }),
+            Ok(inner) => {
+                bytes::fit(inner.as_bytes());
+                Some(Id { inner })
+            }
             Err(_) => None,
         }
     }
@@ -56,7 +60,8 @@ impl Id {
     /// (version 8, variant of RFC 9562), and bytes 10 to 15 are the number.
     pub fn made(namespace: u32, kind: u8, number: u64) -> Id
         requires { number < 2 ^ 48 }
-        ensures { result ≡ made_id namespace kind number }
+        ensures value { result ≡ made_id namespace kind number }
+        ensures fits { is_id result ≡ true }
     {
         let n = namespace.to_be_bytes();
         let m = number.to_be_bytes();
@@ -67,11 +72,23 @@ impl Id {
 
     /// The identifier of these sixteen bytes.
     pub fn from_bytes(bytes: [u8; 16]) -> Id
-        ensures { result ≡ bytes }
+        ensures value { result ≡ bytes }
+        ensures fits { is_id result ≡ true }
     {
+        bytes::fit(&bytes);
         Id {
             inner: Uuid::from_bytes(bytes),
         }
+    }
+
+    /// Whether this is an identifier, which it always is: sixteen bytes.
+    // For the proof: a test of a value's form asks its parts.
+    pub fn is_id(&self) -> bool
+        ensures value { result ≡ is_id self.now }
+        ensures always { result ≡ true }
+    {
+        bytes::fit(self.inner.as_bytes());
+        true
     }
 
     /// The sixteen bytes of the identifier.

@@ -6,9 +6,11 @@
 
 mod bytes;
 mod clock;
+mod decimal;
 mod digest;
 mod id;
 mod laws;
+mod life;
 mod moment;
 mod moment_text;
 mod sequence;
@@ -19,9 +21,11 @@ mod text;
 
 pub use bytes::Bytes;
 pub use clock::{Clock, FixedClock};
+pub use decimal::read_decimal;
 pub use digest::Digest;
 pub use id::Id;
 pub use laws::{four_forms, made_apart, moment_profile};
+pub use life::is_alive;
 pub use moment::{Moment, MomentFault};
 pub use sequence::{Exact, Sequence};
 pub use table::Table;

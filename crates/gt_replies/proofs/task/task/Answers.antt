@@ -9,6 +9,6 @@ use Rattle.gt_replies.proofs.task.task.Goals as goal
 pub returns : goal.returns
 unfolding task_document
 returns c =
-    view-Object c.put_spec.new.members ∙ ap object (six_tables _ _ _ _ _ _ _ _ _ _ _ _ _ (ap members_view c.new-members.ensures.empty)
+    view-Object c.put_options.new.members ∙ ap object (six_tables _ _ _ _ _ _ _ _ _ _ _ _ _ (ap members_view c.new-members.ensures.empty)
     c.in_ok-put_identity.ensures c.in_ok-put_state.ensures c.in_ok-put_times.ensures
-    c.in_ok-put_subtasks.ensures c.in_ok-put_work.ensures c.in_ok-put_spec.ensures)
+    c.in_ok-put_subtasks.ensures c.in_ok-put_work.ensures c.in_ok-put_options.ensures)

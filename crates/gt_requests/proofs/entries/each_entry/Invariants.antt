@@ -3,7 +3,7 @@ use Rattle.std.specs.List.{list_all}
 use Rattle.serde_json.specs.View.{items_view}
 use Rattle.gt_types.specs.SpecForms.{is_transfer_entry}
 use Rattle.gt_requests.specs.Entries.{entries_from, sides_between}
-use Rattle.gt_requests.specs.Reading.{◌>>=◌}
+use Rattle.gt_values.specs.Results.{◌>>=◌}
 use Rattle.gt_requests.proofs.entries.each_entry.Given as goal
 
 -- the entries so far, and what is left to read

@@ -1,6 +1,7 @@
 use Rattle.std.proofs.Common.{◌≡◌, ◌++◌, Ok, drop, length}
 use Rattle.toml.specs.View.{items_view}
-use Rattle.gt_setup.specs.Grammar.{collections_from, ◌>>=◌}
+use Rattle.gt_setup.specs.Grammar.{collections_from}
+use Rattle.gt_values.specs.Results.{◌>>=◌}
 use Rattle.gt_setup.proofs.rows.collections_from.Given as goal
 
 -- the collections so far, and those of the rows that are left

@@ -2,7 +2,8 @@ use Rattle.std.proofs.Common.{List, Ok, [], drop, length, ℕ, ◌++◌, ◌≡�
 use Rattle.std.specs.BTreeMap.{BTreeMap, keys}
 use Rattle.toml.specs.View.{items_view}
 use Rattle.toml.specs.declared.value.Value.{Value}
-use Rattle.gt_setup.specs.Grammar.{identities_from, ◌>>=◌}
+use Rattle.gt_setup.specs.Grammar.{identities_from}
+use Rattle.gt_values.specs.Results.{◌>>=◌}
 use Rattle.gt_setup.specs.Indexed.{IsIndexOf}
 use Rattle.gt_setup.specs.Setup.{lists}
 use Rattle.gt_setup.specs.declared.parts.Identity.{Identity}
