@@ -1,7 +1,8 @@
 -- The greatest number of some rows is that of the right which they give.
-use Rattle.std.proofs.Common.{Bool, List, [], ap, arith, cond, false, filter, inl, inr, length, map, max, nat_eq, refl, sym, true, zero, suc, ℕ, ◌*◌, ◌+◌, ◌++◌, ◌<◌, ◌∙◌, ◌∷◌, ◌≡◌, ◌≤◌, ◌||◌}
-use Rattle.std.specs.List.{fold, list_any}
+use Rattle.std.proofs.Common.{Bool, List, [], ap, arith, cond, false, filter, get_or, inl, inr, length, map, max, refl, sym, take, true, ℕ, ◌*◌, ◌+◌, ◌++◌, ◌<◌, ◌∙◌, ◌∷◌, ◌≡◌, ◌≤◌}
+use Rattle.std.specs.List.{fold}
 use Rattle.std.proofs.lemmas.Bool.{cases_order, eq-eqb, ne_eqb}
+use Rattle.std.proofs.lemmas.List.Elements.{filter_more}
 use Rattle.gt_access.specs.Best.{rank, score, score_of}
 use Rattle.gt_access.specs.Right.{deepest, greatest_right, longest, of_length}
 use Rattle.gt_access.specs.declared.right.Best.{Best}
@@ -51,7 +52,7 @@ rank-le Nothing = omega arith
 rank-le Read = omega arith
 rank-le Write = omega arith
 
-rank-same : (a b : Right) → rank a ≡ rank b → a ≡ b
+pub rank-same : (a b : Right) → rank a ≡ rank b → a ≡ b
 rank-same Nothing Nothing e = refl
 rank-same Nothing Read e = cc
 rank-same Nothing Write e = cc
@@ -103,7 +104,22 @@ best_of-right (row ∷ rows) =
           ]
     ]
 
+pub right_of_best : (d : ℕ) (right : Right) (rows : List AccessRow) → best_of rows ≡ 3 * d + rank right → right ≡ greatest_right (deepest rows)
+right_of_best d right rows e =
+    rank-same _ _ (omega (arith, e, best_of-right rows, rank-le right, rank-le (greatest_right (deepest rows))))
+
 pub right_from_score : (best : Best) (rows : List AccessRow) → score best ≡ best_of rows → best.right ≡ greatest_right (deepest rows)
-right_from_score best rows e =
-    rank-same _ _
-    (omega (arith, e, best_of-right rows, rank-le best.right, rank-le (greatest_right (deepest rows))))
+right_from_score best rows e = right_of_best best.depth best.right rows (sym e)
+
+best_of-one : (b : Bool) (row : AccessRow) → best_of (cond b (row ∷ []) []) ≡ cond b (score_of row) 0
+best_of-one true row = omega arith
+best_of-one false row = refl
+
+-- one row more
+pub best_of_more : (p : AccessRow → Bool) (rows : List AccessRow) (i : ℕ) (row : AccessRow) → i < length rows → row ≡ get_or rows i row
+    → best_of (filter p (take (i + 1) rows)) ≡ max (best_of (filter p (take i rows))) (cond (p row) (score_of row) 0)
+best_of_more p rows i row within is =
+    ap best_of (filter_more p rows i row within)
+    ∙ best_of-append (filter p (take i rows)) (cond (p (get_or rows i row)) (get_or rows i row ∷ []) [])
+    ∙ ap (max (best_of (filter p (take i rows)))) (best_of-one (p (get_or rows i row)) (get_or rows i row))
+    ∙ ap (λ r. max (best_of (filter p (take i rows))) (cond (p r) (score_of r) 0)) (sym is)

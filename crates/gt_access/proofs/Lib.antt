@@ -1,6 +1,6 @@
 pub mod BestLemmas
-pub mod ChainLemmas
+pub mod FiledLemmas
+pub mod FrontLemmas
+pub mod LastLemmas
 pub mod NumberLemmas
-pub mod RowWalks
 pub mod TableLemmas
-pub mod WalkLemmas

@@ -1,20 +1,18 @@
 -- Rows by the numbers of their rules.
-use Rattle.std.proofs.Common.{Bool, IsTrue, List, None, Option, Some, [], add-one, ap, arith, cond, false, find, get_or, inl, inr, is_none, length, map, max, nat_eq, refl, set, sym, true, zero, suc, ℕ, ◌&&◌, ◌+◌, ◌++◌, ◌-◌, ◌<◌, ◌∙◌, ◌∷◌, ◌≡◌, ◌≤◌}
+use Rattle.std.proofs.Common.{Bool, IsTrue, List, None, Option, Some, [], ap, arith, cond, false, get_or, inl, inr, length, max, refl, set, sym, true, zero, suc, ℕ, ◌&&◌, ◌+◌, ◌++◌, ◌-◌, ◌<◌, ◌∙◌, ◌∷◌, ◌≡◌, ◌≤◌}
 use Rattle.std.specs.List.{fold, slice_get}
 use Rattle.std.specs.Prelude.{IsSome, is_some, option_and_then}
 use Rattle.std.proofs.lemmas.Bool.{cases_eq, eq-eqb, ne_eqb}
 use Rattle.std.proofs.lemmas.Bool.{cases_lt}
-use Rattle.std.proofs.lemmas.Grind.{common_steps}
 use Rattle.std.proofs.lemmas.List.{get_or-set_other, get_or-set_same, get_or_append_left, get_or_push, length_push, length-map, length-set, map_push}
 use Rattle.std.proofs.lemmas.List.Elements.{All-push}
 use Rattle.std.proofs.lemmas.Option.{slice_get_read}
 use Rattle.std.proofs.lemmas.List.Sums.{fold_push}
 use Rattle.std.specs.Prelude.{All}
-use Rattle.gt_access.specs.Chain.{last_of}
-use Rattle.gt_access.specs.Indexed.{EndsBeforeNext, IsNumbered, numbers_of}
-use Rattle.gt_access.specs.Rule.{access_row, ended_access, greatest_number, is_live_access, is_live_rule, live_access}
+use Rattle.gt_access.specs.Indexed.{EndsBeforeNext, IsNumbered, last_of, numbers_of}
+use Rattle.gt_access.specs.Rule.{ended_access, greatest_number, is_live_access, is_live_rule, live_access}
 use Rattle.gt_access.specs.declared.row.AccessRow.{AccessRow}
-use Rattle.gt_access.proofs.ChainLemmas.{last_of-le, last_of_other, last_of_same}
+use Rattle.gt_access.proofs.LastLemmas.{last_of-le, last_of_other, last_of_same}
 
 -- a number that no row has
 pub live_access-none : (number : ℕ) (rows : List AccessRow) → last_of number (numbers_of rows) ≡ 0 → live_access number rows ≡ None

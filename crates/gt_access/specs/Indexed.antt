@@ -1,16 +1,17 @@
 -- What the indexes of access rules hold.
-use Rattle.std.specs.Prelude.{All, IsTrue, List, [], length, map, slice_index, ℕ, ◌%◌, ◌+◌, ◌<◌, ◌∷◌, ◌≡◌, ◌≤◌}
-use Rattle.gt_access.specs.Chain.{last_of}
-use Rattle.gt_access.specs.Rule.{greatest_number, is_live_access}
+use Rattle.std.specs.Prelude.{All, Bool, IsTrue, List, [], if◌then◌else◌, false, length, map, slice_index, ℕ, ◌&&◌, ◌+◌, ◌<◌, ◌==◌, ◌∷◌, ◌≡◌, ◌≤◌}
+use Rattle.gt_access.specs.Right.{is_named}
+use Rattle.gt_access.specs.Rule.{greatest_number, is_live_access, is_same_rule}
 use Rattle.gt_access.specs.declared.row.AccessRow.{AccessRow}
+use Rattle.gt_paths.specs.Path.{PathValue, same_path}
+use Rattle.gt_types.specs.declared.rule.Principal.{Principal}
+use Rattle.gt_types.specs.declared.rule.Who.{Who}
 
--- the key of a collection: collections with one key share a chain
-abbrev pub chain_of : ℕ → ℕ
-chain_of collection = collection % 64
-
--- the keys of the rows
-abbrev pub chains_of : List AccessRow → List ℕ
-chains_of rows = map (λ row. chain_of row.collection) rows
+-- one more than the last place of the key, or 0 where it is at none
+abbrev pub last_of : ℕ → List ℕ → ℕ
+last_of key [] = 0
+last_of key (x ∷ xs) =
+    if last_of key xs == 0 then (if x == key then 1 else 0) else last_of key xs + 1
 
 -- the numbers of the rows
 abbrev pub numbers_of : List AccessRow → List ℕ
@@ -28,3 +29,13 @@ pub record IsNumbered (rows : List AccessRow) (newest : List ℕ) : Type 0 where
   pub greatest : greatest_number rows ≡ length newest
   pub places : (n : ℕ) → n < length newest → last_of (n + 1) (numbers_of rows) ≡ slice_index newest n + 1
   pub ended : EndsBeforeNext rows
+
+-- whether the row is live, and is for the collection, the principal and this very path
+abbrev pub is_rule_at : ℕ → PathValue → Principal → AccessRow → Bool
+is_rule_at collection path principal =
+    is_same_rule collection (record { principal = principal; path = path; write = false })
+
+-- whether the row is live, and is for the collection, the caller and this very path
+abbrev pub is_rule_of : ℕ → PathValue → Who → AccessRow → Bool
+is_rule_of collection path who row =
+    is_live_access row && (row.collection == collection) && is_named row.spec.principal who && same_path row.spec.path path

@@ -1,5 +1,5 @@
 pub mod Best
-pub mod Chain
+pub mod Filed
 pub mod Indexed
 pub mod Right
 pub mod Rule

@@ -3,11 +3,13 @@
 //! A rule's rows are kept when they end, so that a right is known for each event that has passed.
 #![tactic(auto)]
 
-mod chains;
+mod filed;
+mod key;
 mod look_up;
 mod right;
 mod row;
 mod rules;
+mod search;
 #[cfg(test)]
 mod tests;
 

@@ -1,21 +1,11 @@
 ghost use Rattle.std.specs.Prelude.{◌≡◌, ◌+◌, ◌*◌, max};
 ghost use Rattle.gt_access.specs.Right as spec;
 ghost use Rattle.gt_access.specs.Best.{score, score_of};
-ghost use Rattle.gt_values.specs.Life as life;
 
 use crate::row::{AccessRow, Right};
 use gt_paths::Path;
 use gt_types::{Principal, Who};
-
-// Whether a row that was born and ended at these events counts at the event `seq`.
-fn is_alive(seq: u64, born: u64, ended: Option<u64>) -> bool
-    ensures { result ≡ life.is_alive seq born ended }
-{
-    match ended {
-        None => born < seq,
-        Some(end) => born < seq && seq < end,
-    }
-}
+use gt_values::is_alive;
 
 // Whether the principal is the caller, one of the caller's groups, or everybody.
 fn is_named(principal: &Principal, who: &Who) -> bool

@@ -1,11 +1,11 @@
 ghost use Rattle.std.specs.List.{list_any};
 ghost use Rattle.std.specs.Option.{option_copied};
-ghost use Rattle.std.specs.Prelude.{◌≡◌, ◌≤◌, ◌<◌, ◌+◌, ◌++◌, ◌∷◌, [], IfSome, IsSome, OnOk};
+ghost use Rattle.std.specs.Prelude.{◌≡◌, ◌≤◌, ◌<◌, ◌+◌, ◌++◌, ◌∷◌, [], IfSome, None, IsSome, OnOk};
 ghost use Rattle.gt_access.specs.Right.{right_of};
 ghost use Rattle.gt_access.specs.Rule.{added_access, ended_access, greatest_number, is_same_rule, live_access, next_rule, replaced_access};
 
-use crate::chains::Chains;
-use crate::look_up::{has_same, live_at, live_place, right_on};
+use crate::filed::FiledRows;
+use crate::look_up::{live_at, live_place};
 use crate::row::{AccessRow, Right};
 use gt_paths::Path;
 use gt_types::{AccessSpec, Who};
@@ -19,25 +19,26 @@ use std::marker::Model;
 /// Rules are numbered from 1 in order of making, and a rule that is replaced keeps its number.
 #[derive(Debug, Drop)]
 pub struct Rules {
-    rows: Vec<AccessRow>,
-    // The rows of one collection, without those of most others.
-    chains: Chains,
+    rows: FiledRows,
     // The place of the newest row of each number.
     newest: Vec<usize>,
 }
 
 impl Model for Rules {
-    ghost use Rattle.std.specs.Prelude.{min, ℕ, ◌≡◌, ◌-◌};
+    ghost use Rattle.std.specs.Prelude.{min, ◌-◌};
     ghost use Rattle.std.specs.Vec.{vec_capacity, vec_len};
-    ghost use Rattle.gt_values.specs.Rows.{Rows, rows_code};
+    ghost use Rattle.gt_values.specs.Rows.{Rows};
     ghost use Rattle.gt_access.specs.declared.row.AccessRow.{AccessRow};
-    ghost use Rattle.gt_access.specs.Indexed.{IsNumbered, chains_of};
+    ghost use Rattle.gt_access.specs.Indexed.{IsNumbered};
 
     ghost Value = { Rows AccessRow };
 
-    ghost view = { λ r. record { rows = r.rows.items; spare = min (vec_capacity r.rows - vec_len r.rows) (min r.chains.spare (vec_capacity r.newest - vec_len r.newest)) } };
+    ghost view = { λ r. record {
+      rows = r.rows.rows;
+      spare = min r.rows.spare (vec_capacity r.newest - vec_len r.newest);
+    } };
 
-    ghost invariant = { λ r. (r.chains.rows ≡ chains_of r.rows.items) × IsNumbered r.rows.items r.newest.items };
+    ghost invariant = { λ r. IsNumbered r.rows.rows r.newest.items };
 }
 
 impl Rules {
@@ -46,8 +47,7 @@ impl Rules {
         ensures { result.rows ≡ [] }
     {
         Rules {
-            rows: Vec::new(alloc),
-            chains: Chains::new(alloc),
+            rows: FiledRows::new(alloc),
             newest: Vec::new(alloc),
         }
     }
@@ -58,8 +58,7 @@ impl Rules {
         ensures room { OnOk result (more ≤ self.new.spare) }
         ensures kept { self.old.spare ≤ self.new.spare }
     {
-        self.rows.reserve(more as usize)?;
-        self.chains.reserve(more)?;
+        self.rows.reserve(more)?;
         self.newest.reserve(more as usize)
     }
 
@@ -79,8 +78,7 @@ impl Rules {
     {
         self.newest.push_reserved(self.rows.len());
         let number = self.newest.len() as u64;
-        self.chains.add((collection % 64) as u8);
-        self.rows.push_reserved(AccessRow {
+        self.rows.add(AccessRow {
             number,
             collection,
             spec,
@@ -95,11 +93,12 @@ impl Rules {
     pub fn replace(&mut self, number: u64, next: AccessSpec, at: u64)
         requires live { IsSome (live_access number self.old.rows) }
         requires room { 0 < self.old.spare }
-        ensures rows { IfSome (live_access number self.old.rows) (λ row. self.new.rows ≡ replaced_access at next row self.old.rows) }
+        ensures rows { IfSome (live_access number self.old.rows)
+            (λ row. self.new.rows ≡ replaced_access at next row self.old.rows) }
         ensures spare { self.old.spare ≤ self.new.spare + 1 }
     {
-        let place = live_at(&self.rows, &self.newest, number);
-        let collection = self.rows[place].collection;
+        let rows = self.rows.as_slice();
+        let collection = rows[live_at(rows, &self.newest, number)].collection;
         self.end(number, at);
         self.add_again(AccessRow {
             number,
@@ -112,6 +111,7 @@ impl Rules {
 
     // Adds a row of a rule that has rows, none of which is live.
     fn add_again(&mut self, row: AccessRow)
+        requires live { row.ended ≡ None }
         requires ended { live_access row.number self.old.rows ≡ None }
         requires from_one { 1 ≤ row.number }
         requires given { row.number ≤ greatest_number self.old.rows }
@@ -120,8 +120,7 @@ impl Rules {
         ensures spare { self.old.spare ≤ self.new.spare + 1 }
     {
         self.newest[row.number as usize - 1] = self.rows.len();
-        self.chains.add((row.collection % 64) as u8);
-        self.rows.push_reserved(row);
+        self.rows.add(row);
     }
 
     /// Ends the live row of the rule at the event `at`.
@@ -130,16 +129,16 @@ impl Rules {
         ensures rows { self.new.rows ≡ ended_access at number self.old.rows }
         ensures spare { self.new.spare ≡ self.old.spare }
     {
-        let place = live_at(&self.rows, &self.newest, number);
-        self.rows[place].ended = Some(at);
+        let place = live_at(self.rows.as_slice(), &self.newest, number);
+        self.rows.end(place, at);
     }
 
     /// The live row of the rule, if it has one.
     pub fn live(&self, number: u64) -> Option<&AccessRow>
         ensures { option_copied result ≡ live_access number self.now.rows }
     {
-        match live_place(&self.rows, &self.newest, number) {
-            Some(place) => Some(&self.rows[place]),
+        match live_place(self.rows.as_slice(), &self.newest, number) {
+            Some(place) => Some(&self.rows.as_slice()[place]),
             None => None,
         }
     }
@@ -148,7 +147,7 @@ impl Rules {
     pub fn same(&self, collection: u32, spec: &AccessSpec) -> bool
         ensures { result ≡ list_any (is_same_rule collection spec.now) self.now.rows }
     {
-        has_same(&self.rows, &self.chains, collection, spec)
+        self.rows.has_same(collection, spec)
     }
 
     /// What the caller may do with the path at the event `seq`.
@@ -162,6 +161,6 @@ impl Rules {
         if *owner == who.identity {
             return Right::Write;
         }
-        right_on(&self.rows, &self.chains, seq, who, collection, path)
+        self.rows.right_at(seq, who, collection, path)
     }
 }

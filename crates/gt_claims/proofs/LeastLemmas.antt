@@ -7,10 +7,9 @@ use Rattle.std.specs.List.{fold}
 use Rattle.std.specs.Option.{option_map_or, unwrap_or}
 use Rattle.std.specs.Ordering.{nat_cmp}
 use Rattle.std.specs.Prelude.{IfSome, IsNone, is_some}
-use Rattle.gt_claims.specs.Claims.{IsLeastConflict, conflicts_with, is_in_conflict}
+use Rattle.gt_claims.specs.Claims.{IsLeastClaimed, is_claimed_with}
 use Rattle.gt_claims.specs.Table.{IsEachOnce}
 use Rattle.gt_claims.specs.declared.claim.Claim.{Claim}
-use Rattle.gt_types.specs.declared.act.Act.{Act}
 use Rattle.gt_claims.proofs.EntryLemmas.{find_behind, find_here}
 
 -- the item, or the least one so far where that is less
@@ -130,42 +129,37 @@ module _ {X : Type 0} (hits : X → Bool) where
   walked (e ∷ es) once before = first_met e es before (hits e.1) refl once.0 (λ least. walked es once.1 least)
 
 -- the test on the map and on its entries
-in_conflict_is : (source destination : ℕ) (act : Act) (es : List (ℕ × Claim)) (claims : FinMap nat_cmp Claim) → from_entries es ≡ claims → (q : ℕ)
-    → is_in_conflict source destination act claims q ≡ holds (conflicts_with source destination act) es q
-in_conflict_is source destination act es claims is q =
-    ap (λ o. option_map_or (conflicts_with source destination act) o false) (ap (λ m. get m q) (sym is) ∙ get-from_entries nat_cmp_total es q)
+claimed_is : (hits : Claim → Bool) (es : List (ℕ × Claim)) (claims : FinMap nat_cmp Claim) → from_entries es ≡ claims → (q : ℕ)
+    → is_claimed_with hits claims q ≡ holds hits es q
+claimed_is hits es claims is q =
+    ap (λ o. option_map_or hits o false) (ap (λ m. get m q) (sym is) ∙ get-from_entries nat_cmp_total es q)
 
-some_conflict : (source destination : ℕ) (act : Act) (es : List (ℕ × Claim)) (claims : FinMap nat_cmp Claim) (least : Option ℕ) → from_entries es ≡ claims
-    → IsWalked (conflicts_with source destination act) es None least → IfSome least (IsLeastConflict source destination act claims)
-some_conflict source destination act es claims None is walk = tt
-some_conflict source destination act es claims (Some n) is walk =
+some_claimed : (hits : Claim → Bool) (es : List (ℕ × Claim)) (claims : FinMap nat_cmp Claim) (least : Option ℕ) → from_entries es ≡ claims
+    → IsWalked hits es None least → IfSome least (IsLeastClaimed hits claims)
+some_claimed hits es claims None is walk = tt
+some_claimed hits es claims (Some n) is walk =
     record {
-      conflict =
+      passes =
           elim (walk.found n refl) [
             | inl old ↦ cc
-            | inr h ↦ in_conflict_is source destination act es claims is n ∙ h
+            | inr h ↦ claimed_is hits es claims is n ∙ h
           ];
       least = λ other h.
-          let bound = walk.bound other (sym (in_conflict_is source destination act es claims is other) ∙ h) in
+          let bound = walk.bound other (sym (claimed_is hits es claims is other) ∙ h) in
           let same : n ≡ bound.0 = cc (bound.1) in
           omega (arith, same, bound.2);
     }
 
--- the least item that is met is the least in conflict
-pub least_conflict : (source destination : ℕ) (act : Act) (es : List (ℕ × Claim)) (claims : FinMap nat_cmp Claim) (least : Option ℕ) → IsEachOnce es
-    → from_entries es ≡ claims → least ≡ fold (met (conflicts_with source destination act)) None es
-    → IfSome least (IsLeastConflict source destination act claims)
-least_conflict source destination act es claims least once is met_is =
-    some_conflict source destination act es claims least is (rw met_is (walked (conflicts_with source destination act) es once None))
+-- the least item that is met is the least whose claim passes
+pub least_claimed : (hits : Claim → Bool) (es : List (ℕ × Claim)) (claims : FinMap nat_cmp Claim) (least : Option ℕ) → IsEachOnce es → from_entries es ≡ claims
+    → least ≡ fold (met hits) None es → IfSome least (IsLeastClaimed hits claims)
+least_claimed hits es claims least once is met_is = some_claimed hits es claims least is (rw met_is (walked hits es once None))
 
--- where no item is met, none is in conflict
-pub no_conflict : (source destination : ℕ) (act : Act) (es : List (ℕ × Claim)) (claims : FinMap nat_cmp Claim) (least : Option ℕ) → IsEachOnce es
-    → from_entries es ≡ claims → least ≡ fold (met (conflicts_with source destination act)) None es → IsNone least
-    → (item : ℕ) → is_in_conflict source destination act claims item ≡ false
-no_conflict source destination act es claims least once is met_is none item =
-    false_from_ne_true (is_in_conflict source destination act claims item) (λ h.
-    let bound =
-    (walked (conflicts_with source destination act) es once None).bound item
-    (sym (in_conflict_is source destination act es claims is item) ∙ h) in
+-- where no item is met, no claim passes
+pub none_claimed : (hits : Claim → Bool) (es : List (ℕ × Claim)) (claims : FinMap nat_cmp Claim) (least : Option ℕ) → IsEachOnce es → from_entries es ≡ claims
+    → least ≡ fold (met hits) None es → IsNone least → (item : ℕ) → is_claimed_with hits claims item ≡ false
+none_claimed hits es claims least once is met_is none item =
+    false_from_ne_true (is_claimed_with hits claims item) (λ h.
+    let bound = (walked hits es once None).bound item (sym (claimed_is hits es claims is item) ∙ h) in
     let some : is_some least ≡ true = ap is_some (met_is ∙ bound.1) in
     cc)

@@ -2,10 +2,11 @@ ghost use Rattle.std.specs.FinMap as map;
 ghost use Rattle.std.specs.Option.{unwrap_or};
 ghost use Rattle.std.specs.Prelude.{◌≡◌, ◌≤◌, ◌<◌, ◌+◌, IfSome, IsNone, OnOk, false, filter, min, nat_eq, not, ℕ};
 ghost use Rattle.std.specs.Vec.{vec_capacity, vec_len};
-ghost use Rattle.gt_claims.specs.Claims.{IsLeastConflict, is_in_conflict};
+ghost use Rattle.gt_claims.specs.Claims.{IsLeastClaimed, IsLeastConflict, is_claimed_with, is_in_conflict, uses};
 
 use crate::claim::Claim;
-use crate::conflict::in_conflict;
+use crate::conflict::{InConflict, Test, Uses};
+use gt_paths::Path;
 use gt_types::Act;
 use std::alloc::{AllocError, Global};
 use std::marker::Model;
@@ -63,9 +64,30 @@ impl Claims {
         ensures least { IfSome result (IsLeastConflict source destination act.now self.now.claims) }
         ensures none { IsNone result → (item : ℕ) → is_in_conflict source destination act.now self.now.claims item ≡ false }
     {
+        self.least(&InConflict {
+            act,
+            source,
+            destination,
+        })
+    }
+
+    /// The least item whose claim reads or writes a path of the collection that overlaps with this one, if there is one.
+    /// Takes no memory.
+    pub fn user_of(&self, collection: u32, path: &Path) -> Option<u64>
+        ensures least { IfSome result (IsLeastClaimed (uses collection path.now) self.now.claims) }
+        ensures none { IsNone result → (item : ℕ) → is_claimed_with (uses collection path.now) self.now.claims item ≡ false }
+    {
+        self.least(&Uses { collection, path })
+    }
+
+    // The least item whose claim passes.
+    fn least<T: Test>(&self, asked: &T) -> Option<u64>
+        ensures least { IfSome result (IsLeastClaimed (T.test asked.now) self.now.claims) }
+        ensures none { IsNone result → (item : ℕ) → is_claimed_with (T.test asked.now) self.now.claims item ≡ false }
+    {
         let mut least = None;
         for (item, claim) in &self.entries {
-            if in_conflict(act, source, destination, claim) {
+            if asked.passes(claim) {
                 least = Some(lesser(*item, least));
             }
         }

@@ -1,4 +1,3 @@
-pub mod ChainLemmas
+pub mod FiledLemmas
+pub mod FirstLemmas
 pub mod NumberLemmas
-pub mod RowWalks
-pub mod WalkLemmas

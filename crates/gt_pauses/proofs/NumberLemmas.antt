@@ -4,8 +4,7 @@ use Rattle.std.specs.List.{fold, list_any, slice_get}
 use Rattle.std.specs.Option.{option_map}
 use Rattle.std.specs.Prelude.{IsSome, is_some, option_and_then}
 use Rattle.std.proofs.lemmas.Bool.{eq-eqb, ne_eqb}
-use Rattle.std.proofs.lemmas.List.{map_push}
-use Rattle.gt_pauses.specs.Indexed.{IsNumberedFrom, chain_of, chains_of}
+use Rattle.gt_pauses.specs.Indexed.{IsNumberedFrom}
 use Rattle.gt_pauses.specs.Paused.{least}
 use Rattle.gt_pauses.specs.Rule.{ended_pause, is_live_pause, is_live_rule, live_pause}
 use Rattle.gt_pauses.specs.declared.row.PauseRow.{PauseRow}
@@ -66,10 +65,6 @@ ended_at k number next (x ∷ rows) (suc i) row is e at live =
     rw (other_number number x (λ own. omega (arith, is.0)))
     (ap (λ xs. x ∷ xs) (ended_at k number (next + 1) rows i row is.1 (omega arith) at live))
 
-pub chains_of-ended : (k number : ℕ) (rows : List PauseRow) → chains_of (ended_pause k number rows) ≡ chains_of rows
-chains_of-ended k number [] = refl
-chains_of-ended k number (row ∷ rows) = grind (arith, chains_of-ended k number rows)
-
 pub IsNumberedFrom-ended : (k number next : ℕ) (rows : List PauseRow) → IsNumberedFrom next rows → IsNumberedFrom next (ended_pause k number rows)
 IsNumberedFrom-ended k number next [] is = tt
 IsNumberedFrom-ended k number next (row ∷ rows) is =
@@ -102,6 +97,12 @@ row_there number rows is live =
     let some : IsSome (option_and_then if_live (row_at rows number)) = rw (live_row number rows is) at live in
     some_before (row_at rows number) some
 
+pub row_place : (number : ℕ) (rows : List PauseRow) (row : PauseRow) → row_at rows number ≡ Some row → slice_get rows (number - 1) ≡ Some row
+row_place zero rows row at = cc
+row_place (suc i) rows row at =
+    let place : suc i - 1 ≡ i = omega arith in
+    rw place at
+
 live_from : (lives : Bool) (row : PauseRow) → IsSome (cond lives (Some row) None) → lives ≡ true
 live_from true row some = refl
 live_from false row some = some
@@ -114,25 +115,6 @@ ended_is k (suc i) rows row is live at =
     let place : suc i - 1 ≡ i = omega arith in
     let some : IsSome (if_live row) = rw (live_pause-row (suc i) rows row is at) at live in
     rw place (ended_at k (suc i) 1 rows i row is (omega arith) at (live_from (is_live_pause row) row some))
-
--- the index stands for the rows
-abbrev pub IsIndexed : List PauseRow → List ℕ → Type 0
-IsIndexed rows keys = (keys ≡ chains_of rows) × IsNumberedFrom 1 rows
-
-pub IsIndexed-add : (row : PauseRow) (rows after : List PauseRow) (keys keys_after : List ℕ) → IsIndexed rows keys
-    → after ≡ rows ++ row ∷ [] → keys_after ≡ keys ++ chain_of row.spec.collection ∷ [] → row.number ≡ length rows + 1 → IsIndexed after keys_after
-IsIndexed-add row rows after keys keys_after old is keys_are new = (
-  keys_are
-      ∙ ap (λ ks. ks ++ chain_of row.spec.collection ∷ []) old.0
-      ∙ sym (map_push (λ r. chain_of r.spec.collection) rows row)
-      ∙ ap chains_of (sym is),
-  rw is (IsNumberedFrom-push 1 rows row old.1 (omega arith)),
-)
-
-pub IsIndexed-ended : (k number : ℕ) (rows after : List PauseRow) (keys : List ℕ) → IsIndexed rows keys → after ≡ ended_pause k number rows
-    → IsIndexed after keys
-IsIndexed-ended k number rows after keys old is =
-    (old.0 ∙ sym (chains_of-ended k number rows) ∙ ap chains_of (sym is), rw is (IsNumberedFrom-ended k number 1 rows old.1))
 
 min_chosen : (b : Bool) (a n : ℕ) (ns : List ℕ) → a ≤ n → fold min a ns ≡ a → fold min a (cond b (n ∷ ns) ns) ≡ a
 min_chosen true a n ns h rest =

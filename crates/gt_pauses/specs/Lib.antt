@@ -1,4 +1,3 @@
-pub mod Chain
 pub mod Indexed
 pub mod Paused
 pub mod Rule

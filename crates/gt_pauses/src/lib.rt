@@ -3,7 +3,8 @@
 //! A rule's row is kept when it ends, so that what was paused is known for each event that has passed.
 #![tactic(auto)]
 
-mod chains;
+mod key;
+mod live;
 mod look_up;
 mod pauses;
 mod row;

@@ -3,13 +3,18 @@ ghost use Rattle.std.specs.Prelude.{◌≡◌, ◌≤◌, ◌<◌, ◌+◌, [], 
 ghost use Rattle.gt_pauses.specs.Paused.{is_paused, least_pause};
 ghost use Rattle.gt_pauses.specs.Rule.{added_pause, ended_pause, live_pause, next_pause};
 
-use crate::chains::Chains;
+use crate::key::RuleKey;
+use crate::live::LiveRows;
 use crate::look_up::paused_on;
 use crate::row::{PauseAct, PauseRow};
+use gt_index::Keyed;
 use gt_types::PauseSpec;
 use gt_values::{Id, Table};
 use std::alloc::{AllocError, Global};
 use std::marker::Model;
+
+// A place is a number of four bytes.
+const MOST_ROWS: u64 = 0xffff_ffff;
 
 /// The rows of all pause rules in order of making, ended ones too. Contracts see the rows, and the number of rows that can
 /// be added without memory.
@@ -18,21 +23,23 @@ use std::marker::Model;
 #[derive(Debug, Drop)]
 pub struct Pauses {
     rows: Table<PauseRow>,
-    // The rows of one collection, without those of most others.
-    chains: Chains,
+    live: LiveRows,
+    // The last event that made or ended a rule.
+    changed: u64,
+    room: u64,
 }
 
 impl Model for Pauses {
-    ghost use Rattle.std.specs.Prelude.{min, ◌≡◌};
     ghost use Rattle.gt_values.specs.Rows.{Rows};
     ghost use Rattle.gt_pauses.specs.declared.row.PauseRow.{PauseRow};
-    ghost use Rattle.gt_pauses.specs.Indexed.{IsNumberedFrom, chains_of};
+    ghost use Rattle.gt_pauses.specs.Indexed.{IsFiledBy};
 
     ghost Value = { Rows PauseRow };
 
-    ghost view = { λ p. record { rows = p.rows.rows; spare = min p.rows.spare p.chains.spare } };
+    ghost view = { λ p. record { rows = p.rows.rows; spare = p.room } };
 
-    ghost invariant = { λ p. (p.chains.rows ≡ chains_of p.rows.rows) × IsNumberedFrom 1 p.rows.rows };
+    ghost invariant = { λ p. IsFiledBy ⟦<RuleKey as Ord>⟧.cmp ⟦<PauseRow as Keyed>⟧.key
+        p.rows.rows p.rows.spare p.live p.changed p.room };
 }
 
 impl Pauses {
@@ -42,7 +49,9 @@ impl Pauses {
     {
         Pauses {
             rows: Table::new(alloc),
-            chains: Chains::new(alloc),
+            live: LiveRows::new(alloc),
+            changed: 0,
+            room: 0,
         }
     }
 
@@ -52,8 +61,15 @@ impl Pauses {
         ensures room { OnOk result (more ≤ self.new.spare) }
         ensures kept { self.old.spare ≤ self.new.spare }
     {
+        if more > MOST_ROWS - self.rows.len() as u64 {
+            return Err(AllocError);
+        }
         self.rows.reserve(more)?;
-        self.chains.reserve(more)
+        self.live.reserve(more)?;
+        if more > self.room {
+            self.room = more;
+        }
+        Ok(())
     }
 
     /// The rows, in order of making.
@@ -70,14 +86,19 @@ impl Pauses {
         ensures rows { self.new.rows ≡ added_pause born spec self.old.rows }
         ensures spare { self.new.spare + 1 ≡ self.old.spare }
     {
-        let number = self.rows.as_slice().len() as u64 + 1;
-        self.chains.add((spec.collection % 64) as u8);
+        let place = self.rows.len();
+        let number = place as u64 + 1;
+        if born > self.changed {
+            self.changed = born;
+        }
         self.rows.add(PauseRow {
             number,
             spec,
             born,
             ended: None,
         });
+        self.live.add(self.rows.as_slice(), place as u32);
+        self.room -= 1;
         number
     }
 
@@ -87,7 +108,12 @@ impl Pauses {
         ensures rows { self.new.rows ≡ ended_pause at number self.old.rows }
         ensures spare { self.new.spare ≡ self.old.spare }
     {
+        if at > self.changed {
+            self.changed = at;
+        }
         self.rows.row_mut(number).ended = Some(at);
+        let place = (number - 1) as u32;
+        self.live.end(self.rows.as_slice(), place);
     }
 
     /// The live rule of this number, if there is one.
@@ -107,13 +133,11 @@ impl Pauses {
         ensures least { result ≡ least_pause seq identity.now collection act self.now.rows }
         ensures paused { is_some result ≡ is_paused seq identity.now collection act self.now.rows }
     {
-        paused_on(
-            self.rows.as_slice(),
-            &self.chains,
-            seq,
-            identity,
-            collection,
-            act,
-        )
+        let rows = self.rows.as_slice();
+        if seq > self.changed {
+            self.live.paused(rows, seq, identity, collection, act)
+        } else {
+            paused_on(rows, seq, identity, collection, act)
+        }
     }
 }

@@ -1,6 +1,5 @@
-use Rattle.std.proofs.Common.{arith, get_or, ◌+◌, ◌-◌, ◌≡◌, ◌≤◌}
-use Rattle.gt_access.specs.Chain.{last_of}
-use Rattle.gt_access.specs.Indexed.{numbers_of}
+use Rattle.std.proofs.Common.{arith, get_or, ◌+◌, ◌-◌, ◌≡◌}
+use Rattle.gt_access.specs.Indexed.{last_of, numbers_of}
 use Rattle.gt_access.proofs.NumberLemmas.{last_place, live_at_place, live_number, place_within}
 use Rattle.gt_access.proofs.look_up.live_at.Goals as goal
 

@@ -1,6 +1,4 @@
-use Rattle.std.proofs.Common.{None, Some, ap, arith, cond, false, get_or, inl, inr, rules, sym, true, ◌+◌, ◌-◌, ◌<◌, ◌∙◌, ◌≡◌, ◌≤◌}
-use Rattle.gt_access.specs.Chain.{last_of}
-use Rattle.gt_access.specs.Indexed.{numbers_of}
+use Rattle.std.proofs.Common.{None, Some, ap, arith, cond, false, get_or, inl, inr, rules, sym, true, ◌-◌, ◌∙◌, ◌≡◌}
 use Rattle.gt_access.specs.Rule.{is_live_access, live_access}
 use Rattle.gt_access.proofs.NumberLemmas.{last_place, live_access-above, live_access-zero, live_is, place_within}
 use Rattle.gt_access.proofs.look_up.live_place.Goals as goal

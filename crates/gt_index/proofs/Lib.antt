@@ -1,0 +1,4 @@
+pub mod FilingLemmas
+pub mod OrderLemmas
+pub mod RiseLemmas
+pub mod RunLemmas
