@@ -1,4 +1,3 @@
-pub mod Moments
 mod Overlaid
 mod Replay
 mod Prose

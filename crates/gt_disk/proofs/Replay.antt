@@ -2,9 +2,11 @@
 use Rattle.std.proofs.Common.{◌≡◌, inl, inr, ℕ, ◌+◌, ◌<◌, ◌≤◌, ◌^◌, Bool, true, false, ◌&&◌, List, [], ◌∷◌, ◌++◌, length, take, drop, refl, sym, ◌∙◌, ap, subst, arith, append_assoc, length-append, length-take, length-drop, rules}
 use Rattle.std.proofs.lemmas.List.{take_at, drop_at, take_all, take-append-le}
 use Rattle.std.proofs.lemmas.Bool.{cases_lt}
-use Rattle.gt_disk.specs.Disk.{Torn, Follows, Only, Elapses}
-use Rattle.gt_disk.specs.Images.{State, Step, Write, Sync, IsImage, overlaid, after, fresh, run, state_of, begins_within, are_within, LeftSince}
-use Rattle.gt_disk.specs.MemFile.{IsReplayed}
+use Rattle.gt_causes.specs.Counts.{Counts}
+use Rattle.gt_causes.specs.Outcomes.{Follows, Only}
+use Rattle.gt_disk.specs.Disk.{Torn, Elapses}
+use Rattle.gt_disk.specs.Images.{State, Step, Write, Sync, IsImage, overlaid, after, fresh, run, state_of, begins_within, are_within}
+use Rattle.gt_disk.specs.MemFile.{IsReplayed, MemFile, file_words}
 
 pub run-push : (state : State) (steps : List Step) (step : Step) → run state (steps ++ step ∷ []) ≡ after step (run state steps)
 run-push state [] step = refl
@@ -41,21 +43,24 @@ module _ (start : List ℕ) (steps later : List Step) (step : Step) (is : later 
     within = subst (λ (done : List Step). are_within (fresh start) done ≡ true) (sym is) (within-push (fresh start) steps step before.within begins);
   }
 
-  pub elapses_more : Elapses (length steps) (length later) (LeftSince start steps) (LeftSince start later) (IsImage (state_of start later))
-  elapses_more =
-      let longer : length later ≡ length steps + 1 = omega (arith, ap length is, length-append steps (step ∷ [])) in
-      let front : (k : ℕ) → k ≤ length steps → take k later ≡ take k steps = λ k le. ap (λ (done : List Step). take k done) is ∙ take-append-le k steps (step ∷ []) le in
-      record {
-        later = omega (arith, longer);
-        nothing_else = λ t c le left. elim (cases_lt left.0 (length steps + 1)) [
-          | inl early ↦ inl (left.0, left.1, omega (arith, early), subst (λ (done : List Step). IsImage (state_of start done) c) (front left.0 (omega (arith, early))) left.3)
-          | inr last ↦ inr (subst (λ (done : List Step). IsImage (state_of start done) c) (take_all left.0 later (omega (arith, last, longer))) left.3)
-        ];
-        keeps = λ t c le left. (left.0, left.1, omega (arith, left.2, longer), subst (λ (done : List Step). IsImage (state_of start done) c) (sym (front left.0 left.2)) left.3);
-      }
+-- one step more, whatever is counted
+pub elapses_more : (old : MemFile) (counts : Counts) (step : Step) → Elapses file_words old (record old { steps = old.steps ++ step ∷ []; counts = counts })
+elapses_more old counts step =
+    let steps = old.steps in
+    let later = steps ++ step ∷ [] in
+    let longer : length later ≡ length steps + 1 = length-append steps (step ∷ []) in
+    let front : (k : ℕ) → k ≤ length steps → take k later ≡ take k steps = λ k le. take-append-le k steps (step ∷ []) le in
+    record {
+      later = omega (arith, longer);
+      nothing_else = λ t c le left. elim (cases_lt left.0 (length steps + 1)) [
+        | inl early ↦ inl (left.0, left.1, omega (arith, early), subst (λ (done : List Step). IsImage (state_of old.start done) c) (front left.0 (omega (arith, early))) left.3)
+        | inr last ↦ inr (subst (λ (done : List Step). IsImage (state_of old.start done) c) (take_all left.0 later (omega (arith, last, longer))) left.3)
+      ];
+      keeps = λ t c le left. (left.0, left.1, omega (arith, left.2, longer), subst (λ (done : List Step). IsImage (state_of old.start done) c) (sym (front left.0 left.2)) left.3);
+    }
 
-pub elapses_not : (start : List ℕ) (steps : List Step) → Elapses (length steps) (length steps) (LeftSince start steps) (LeftSince start steps) (IsImage (state_of start steps))
-elapses_not start steps = record { later = omega arith; nothing_else = λ t c le left. inl left; keeps = λ t c le left. left }
+pub elapses_not : (old : MemFile) (counts : Counts) → Elapses file_words old (record old { counts = counts })
+elapses_not old counts = record { later = omega arith; nothing_else = λ t c le left. inl left; keeps = λ t c le left. left }
 
 -- a write leaves what it may have torn
 pub write_follows : (state : State) (at : ℕ) (bytes : List ℕ) → at ≤ length state.seen → Follows (Torn at (length bytes)) (IsImage state) (IsImage (after (Write at bytes) state))

@@ -1,4 +1,5 @@
 pub mod Disk
+pub mod Moments
 pub mod TornWrites
 pub mod Images
 pub mod MemFile

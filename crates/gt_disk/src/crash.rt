@@ -11,8 +11,10 @@ use std::alloc::{AllocError, Global};
 // The bytes, but 1 from a place on.
 fn torn_bytes(alloc: Global, bytes: &[u8], from: usize) -> Result<Vec<u8>, AllocError>
     ensures long { IfOk result (λ torn. length torn.items ≡ length bytes.now) }
-    ensures before { IfOk result (λ torn. (i : ℕ) → i < from → slice_index torn.items i ≡ slice_index bytes.now i) }
-    ensures ones { IfOk result (λ torn. (i : ℕ) → from ≤ i → i < length bytes.now → slice_index torn.items i ≡ 1) }
+    ensures before { IfOk result (λ torn. (i : ℕ) → i < from
+        → slice_index torn.items i ≡ slice_index bytes.now i) }
+    ensures ones { IfOk result (λ torn. (i : ℕ) → from ≤ i → i < length bytes.now
+        → slice_index torn.items i ≡ 1) }
 {
     let front = from.min(bytes.len());
     let mut torn = bytes[..front].to_vec(alloc)?;
@@ -28,7 +30,8 @@ fn write_kept(
     bytes: &[u8],
     left: &mut Vec<u8>,
 ) -> Result<(), AllocError>
-    ensures { OnOk result ((state : State) → IsTrue (begins_within state (Write at bytes.now)) → IsKept keep state left.old.items
+    ensures { OnOk result ((state : State) → IsTrue (begins_within state (Write at bytes.now))
+        → IsKept keep state left.old.items
         → IsKept keep (after (Write at bytes.now) state) left.new.items) }
 {
     match keep {
@@ -53,8 +56,10 @@ fn call_again(
     seen: &mut Vec<u8>,
     left: &mut Vec<u8>,
 ) -> Result<(), AllocError>
-    ensures { OnOk result ((state : State) → IsTrue (begins_within state (step_of call.now)) → seen.old.items ≡ state.seen → IsKept keep state left.old.items
-        → (seen.new.items ≡ (after (step_of call.now) state).seen) × IsKept keep (after (step_of call.now) state) left.new.items) }
+    ensures { OnOk result ((state : State) → IsTrue (begins_within state (step_of call.now))
+        → seen.old.items ≡ state.seen → IsKept keep state left.old.items
+        → (seen.new.items ≡ (after (step_of call.now) state).seen)
+        × IsKept keep (after (step_of call.now) state) left.new.items) }
 {
     match call {
         Call::Looked => Ok(()),
@@ -78,7 +83,8 @@ pub fn kept_file(
     keep: Keep,
 ) -> Result<Vec<u8>, AllocError>
     requires { IsTrue (are_within (fresh start.now) (steps_of noted.now)) }
-    ensures { IfOk result (λ file. IsKept keep (state_of start.now (steps_of noted.now)) file.items) }
+    ensures { IfOk result (λ file.
+        IsKept keep (state_of start.now (steps_of noted.now)) file.items) }
 {
     let mut seen = start.to_vec(alloc)?;
     let mut left = start.to_vec(alloc)?;

@@ -1,26 +1,13 @@
-// A lent disk: its meanings are those of the disk that it refers to.
-use crate::{Disk, Failed};
+// A lent disk: what is said of it is said of the disk that it refers to.
+ghost use Rattle.gt_disk.specs.Disk.{lent, lent_laws};
+
+use crate::Disk;
+use gt_causes::Failed;
 
 impl<D: Disk> Disk for &mut D {
-    ghost faults_of = { λ d. D.faults_of d.now };
+    ghost words = { lent (λ d. d.now) (λ d. d.ghost_name) D.words };
 
-    ghost is_honest = { λ d. D.is_honest d.now };
-
-    ghost seen = { λ d. D.seen d.now };
-
-    ghost may_leave = { λ d. D.may_leave d.now };
-
-    ghost moment = { λ d. D.moment d.now };
-
-    ghost left_since = { λ d. D.left_since d.now };
-
-    ghost loan = { λ d. d.ghost_name };
-
-    ghost reads_now = { λ d. D.reads_now d.now };
-
-    ghost counts_now = { λ d. D.counts_now d.now };
-
-    ghost only_now = { λ d. D.only_now d.now };
+    ghost laws = { lent_laws (λ d. d.now) (λ d. d.ghost_name) D.words D.laws };
 
     fn faults(&self) -> u64 {
         Disk::faults(&**self)

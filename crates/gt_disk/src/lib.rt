@@ -18,7 +18,7 @@ mod suite_fault;
 #[cfg(test)]
 mod tests;
 
-pub use disk::{Disk, Failed};
+pub use disk::Disk;
 pub use keep::Keep;
 pub use laws::torn_writes;
 pub use mem::MemDisk;

@@ -1,7 +1,7 @@
 ghost use Rattle.std.specs.Prelude.{◌≡◌};
 ghost use Rattle.gt_disk.specs.declared.suite_fault.SuiteFault.TheVariants.{DiskFault, OutOfMemory};
 
-use crate::Failed;
+use gt_causes::Failed;
 use std::alloc::{AllocError, AllocFailed};
 
 /// Why the suite stopped.

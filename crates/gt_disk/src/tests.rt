@@ -1,8 +1,10 @@
 // What each kind of crash leaves, which calls fail, and the suite over good disks and bad ones.
-ghost use Rattle.std.specs.Prelude.{◌≡◌, false};
-ghost use Rattle.std.proofs.lemmas.Bool.{false≢true};
+ghost use Rattle.std.specs.Prelude.{◌≤◌};
+ghost use Rattle.gt_causes.specs.Causes.{Rose};
+ghost use Rattle.gt_disk.specs.Disk.{untold, untold_laws};
 
-use crate::{Disk, Failed, Keep, MemDisk, SuiteFault, disk_suite};
+use crate::{Disk, Keep, MemDisk, SuiteFault, disk_suite};
+use gt_causes::Failed;
 use std::alloc::Global;
 use std::test::Fail;
 
@@ -12,6 +14,15 @@ fn put<D: Disk>(disk: &mut D, at: u64, bytes: &[u8]) -> Result<(), Failed> {
         return Err(Failed);
     }
     disk.write_at(at, bytes)
+}
+
+// A read that first sees that it ends within the file.
+fn get<D: Disk>(disk: &mut D, at: u64, into: &mut [u8]) -> Result<(), Failed> {
+    let length = disk.len()?;
+    if at > length || into.len() as u64 > length - at {
+        return Err(Failed);
+    }
+    disk.read(at, into)
 }
 
 fn contents<D: Disk>(alloc: Global, disk: &mut D) -> Result<Vec<u8>, Fail> {
@@ -84,57 +95,94 @@ fn suite_passes_a_disk_in_memory(rt: HostRuntime) -> Result<(), Fail> {
     Ok(())
 }
 
-// A disk of one write that tells nothing of what it holds, and keeps one byte less than it takes.
+#[derive(Clone, Copy, PartialEq, Eq, Drop)]
+enum Wrong {
+    Length,
+    Place,
+    LastByte,
+}
+
+// A disk that has a good one, tells nothing of it, and gets one thing wrong.
 #[derive(Drop)]
-struct Short {
-    length: u64,
+struct Flawed {
+    disk: MemDisk,
+    wrong: Wrong,
     faults: u64,
 }
 
-impl Disk for Short {
-    ghost faults_of = { λ d. d.faults };
+impl Flawed {
+    fn fail(&mut self) -> Failed
+        ensures cause { Rose self.old.faults self.new.faults }
+        ensures same { self.old.faults ≤ self.new.faults }
+    {
+        self.faults = self.faults.saturating_add(1);
+        Failed
+    }
+}
 
-    ghost reads_now = { λ _ h. absurd (false≢true h) };
+impl Disk for Flawed {
+    ghost words = { untold (λ d. d.faults) (λ _. 0) };
 
-    ghost counts_now = { λ _ _ _ h _ _. tt };
-
-    ghost only_now = { λ _ _ _ _. tt };
+    ghost laws = { untold_laws (λ d. d.faults) (λ _. 0) };
 
     fn faults(&self) -> u64 {
         self.faults
     }
 
     fn len(&mut self) -> Result<u64, Failed> {
-        Ok(self.length.min(1 << 62))
+        match self.disk.len() {
+            Ok(length) if self.wrong == Wrong::Length => Ok(length / 2),
+            Ok(length) => Ok(length),
+            Err(_) => Err(self.fail()),
+        }
     }
 
-    fn read(&mut self, _at: u64, into: &mut [u8]) -> Result<(), Failed> {
-        into.fill(b'?');
-        Ok(())
+    fn read(&mut self, at: u64, into: &mut [u8]) -> Result<(), Failed> {
+        let at = if self.wrong == Wrong::Place { 0 } else { at };
+        match get(&mut self.disk, at, into) {
+            Ok(()) => Ok(()),
+            Err(_) => Err(self.fail()),
+        }
     }
 
     fn write_at(&mut self, at: u64, from: &[u8]) -> Result<(), Failed> {
+        let short = usize::from(self.wrong == Wrong::LastByte);
+        let kept = from.len().saturating_sub(short);
         if at >= 1 << 62 || from.len() as u64 >= 1 << 62 {
-            self.faults = self.faults.saturating_add(1);
-            return Err(Failed);
+            return Err(self.fail());
         }
-        self.length = (at + from.len() as u64).saturating_sub(1);
-        Ok(())
+        match put(&mut self.disk, at, &from[..kept]) {
+            Ok(()) => Ok(()),
+            Err(_) => Err(self.fail()),
+        }
     }
 
     fn sync(&mut self) -> Result<(), Failed> {
-        Ok(())
+        match self.disk.sync() {
+            Ok(()) => Ok(()),
+            Err(_) => Err(self.fail()),
+        }
     }
 }
 
-#[test]
-fn suite_refuses_a_disk_that_drops_the_last_byte(rt: HostRuntime) {
-    let mut disk = Short {
-        length: 0,
+fn found(alloc: Global, wrong: Wrong) -> Result<Result<(), SuiteFault>, Fail> {
+    let disk = MemDisk::new(alloc, Vec::new(alloc), Vec::new(alloc))?;
+    let mut flawed = Flawed {
+        disk,
+        wrong,
         faults: 0,
     };
+    Ok(disk_suite(alloc, &mut flawed))
+}
+
+#[test]
+fn suite_finds_what_is_wrong(rt: HostRuntime) -> Result<(), Fail> {
+    let alloc = rt.alloc();
+    assert_eq!(rt; found(alloc, Wrong::Length)?, Err(SuiteFault::WrongLength));
+    assert_eq!(rt; found(alloc, Wrong::Place)?, Err(SuiteFault::WrongBytes));
     assert_eq!(rt;
-        disk_suite(rt.alloc(), &mut disk),
+        found(alloc, Wrong::LastByte)?,
         Err(SuiteFault::WrongLength)
     );
+    Ok(())
 }

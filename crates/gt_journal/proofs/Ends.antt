@@ -1,7 +1,8 @@
 -- What a crash leaves while the end of a file is closed.
 use Rattle.std.proofs.Common.{◌≡◌, inl, ℕ, ◌<◌, List, ◌++◌, length, take, drop, sym, ◌∙◌, ap, subst, arith, length-drop, take-append-drop}
 use Rattle.std.proofs.lemmas.List.{take_at}
-use Rattle.gt_disk.specs.Disk.{Torn, Only, Follows}
+use Rattle.gt_causes.specs.Outcomes.{Follows, Only}
+use Rattle.gt_disk.specs.Disk.{Torn}
 use Rattle.gt_journal.specs.JournalText.{texts, IsJournalText}
 
 torn_end : (bodies : List (List ℕ)) (place : ℕ) (s c : List ℕ) → IsJournalText bodies s → place ≡ length (texts bodies) → length (drop place s) < 9 → Torn place 1 s c → IsJournalText bodies c

@@ -3,7 +3,12 @@ mod Texts
 mod Fronts
 mod Unique
 mod Parse
-mod PieceLemmas
 mod Readings
 mod Ends
+mod Runs
+mod GateWrites
+mod PieceLemmas
+mod Openings
 mod Standings
+mod Appends
+mod Settlings

@@ -1,5 +1,5 @@
 -- Which bodies a file stands for, and where it is damaged.
-use Rattle.std.specs.Prelude.{◌≡◌, ◌≢◌, ◌⊎◌, ℕ, ◌<◌, ◌≤◌, ◌+◌, ◌^◌, List, ◌∷◌, ◌++◌, length, slice_index, take, drop}
+use Rattle.std.specs.Prelude.{◌≡◌, ◌≢◌, ◌⊎◌, ℕ, ◌<◌, ◌≤◌, ◌+◌, ◌^◌, Option, None, Some, List, [], ◌∷◌, ◌++◌, length, slice_index, take, drop}
 use Rattle.std.specs.List.{flat_map, AllByRecursion}
 use Rattle.std.specs.Int.{w64, to_be_bytes, from_be_bytes}
 
@@ -29,6 +29,10 @@ pub record IsCutOff (rest : List ℕ) : Type 0 where
   pub header : 9 ≤ length rest
   pub short : length rest < 9 + from_be_bytes w64 (take 8 (drop 1 rest))
 
+-- each number is a byte
+abbrev pub IsBytes : List ℕ → Type 0
+IsBytes bytes = (i : ℕ) → slice_index bytes i < 256
+
 -- the file is the records of these bodies, and a tail
 pub record IsJournalText (bodies : List (List ℕ)) (file : List ℕ) : Type 0 where
   pub fit : AllByRecursion Fits bodies
@@ -42,6 +46,11 @@ pub record IsDamagedAfter (bodies : List (List ℕ)) (file : List ℕ) : Type 0 
   pub rest : List ℕ
   pub whole : file ≡ texts bodies ++ rest
   pub cut_off : IsCutOff rest
+
+-- the file stands for the bodies, or for them and the one in doubt
+abbrev pub IsTextWithDoubt : List (List ℕ) → Option (List ℕ) → List ℕ → Type 0
+IsTextWithDoubt bodies None file = IsJournalText bodies file
+IsTextWithDoubt bodies (Some body) file = IsJournalText bodies file ⊎ IsJournalText (bodies ++ body ∷ []) file
 
 -- The bytes before the next record's gate stand for these bodies, whatever follows a closed gate.
 pub record IsFront (bodies : List (List ℕ)) (front : List ℕ) : Type 0 where

@@ -1,5 +1,7 @@
 pub mod JournalText
 pub mod Gates
-pub mod Kept
-pub mod Settles
+pub mod Journal
+pub mod Calls
+pub mod Reading
 pub mod Opening
+pub mod Finding

@@ -1,4 +1,4 @@
-use gt_disk::Failed;
+use gt_causes::Failed;
 use thiserror::Error;
 
 /// The disk failed in the call, and its count of faults rose.

@@ -1,24 +1,27 @@
 // The steps of an append and of a settling, over a disk and the place of a gate.
-ghost use Rattle.std.specs.Prelude.{◌≡◌, ◌+◌, ◌^◌, ◌<◌, ◌==◌, ◌++◌, [], ◌∷◌, List, ℕ, length, slice_index, if◌then◌else◌, IsTrue, IfOk, OnOk};
-ghost use Rattle.gt_causes.specs.Causes.{HasCause};
-ghost use Rattle.gt_disk.specs.Disk.{LeavesOnly, NoMore};
+ghost use Rattle.std.specs.Prelude.{◌≡◌, ◌+◌, ◌^◌, ◌<◌, ◌==◌, ◌++◌, [], ◌∷◌, List, ℕ, length, slice_index, if◌then◌else◌, IsTrue, IfOk, IsErr, OnOk};
+ghost use Rattle.gt_causes.specs.Causes.{HasFailed};
+ghost use Rattle.gt_causes.specs.Outcomes.{NoMore};
+ghost use Rattle.gt_disk.specs.Disk.{IsSameDisk};
 ghost use Rattle.gt_journal.specs.JournalText.{frame, text};
-ghost use Rattle.gt_journal.specs.Gates.{Closed, Doubtful, InDoubt};
+ghost use Rattle.gt_journal.specs.Gates.{Closed, Doubtful, InDoubt, IsGateAt, Keeps};
 
-use gt_disk::{Disk, Failed};
+use gt_causes::Failed;
+use gt_disk::Disk;
 
 /// Writes a frame and a closed gate behind the closed gate at this place, and makes a sync.
 pub fn stage<D: Disk>(disk: &mut D, place: u64, bytes: &[u8]) -> Result<(), Failed>
     requires small { place + 1 < 2 ^ 63 }
-    requires place { IsTrue (D.is_honest disk.old) → (front : List ℕ) × (place ≡ length front) × NoMore (Closed front) (D.may_leave disk.old) }
-    ensures cause { HasCause (D.faults_of disk.old) (D.faults_of disk.new) result }
-    ensures honest { D.is_honest disk.new ≡ D.is_honest disk.old }
-    ensures loan { D.loan disk.new ≡ D.loan disk.old }
+    requires place { IsTrue (D.words.honest disk.old)
+        → (front : List ℕ) × IsGateAt D.words disk.old place front (Closed front) }
+    ensures ok { OnOk result ((front body : List ℕ)
+        → IsGateAt D.words disk.old place front (Closed front) → bytes.now ≡ frame body ++ 0 ∷ []
+        → NoMore (InDoubt front body) (D.words.may_leave disk.new)) }
     ensures room { OnOk result (place + 1 + length bytes.now < 2 ^ 63) }
-    ensures any_moment { (front : List ℕ) → IsTrue (D.is_honest disk.old) → place ≡ length front → NoMore (Closed front) (D.may_leave disk.old)
-        → LeavesOnly D.moment D.left_since disk.old disk.new (Closed front) × NoMore (Closed front) (D.may_leave disk.new) }
-    ensures staged { OnOk result ((front body : List ℕ) → IsTrue (D.is_honest disk.old) → place ≡ length front → NoMore (Closed front) (D.may_leave disk.old)
-        → bytes.now ≡ frame body ++ 0 ∷ [] → NoMore (InDoubt front body) (D.may_leave disk.new)) }
+    ensures any_moment { (front : List ℕ) → IsGateAt D.words disk.old place front (Closed front)
+        → Keeps D.words disk.old disk.new (Closed front) }
+    ensures same { IsSameDisk D.words disk.old disk.new }
+    ensures cause { IsErr result → HasFailed D.words.faults disk.old disk.new }
 {
     disk.write_at(place + 1, bytes)?;
     disk.sync()?;
@@ -28,14 +31,16 @@ pub fn stage<D: Disk>(disk: &mut D, place: u64, bytes: &[u8]) -> Result<(), Fail
 /// Writes the gate at this place, and makes a sync.
 pub fn set_gate<D: Disk>(disk: &mut D, place: u64, gate: u8) -> Result<(), Failed>
     requires small { place + 1 < 2 ^ 63 }
-    requires place { IsTrue (D.is_honest disk.old) → (front : List ℕ) × (body : List ℕ) × (place ≡ length front) × NoMore (InDoubt front body) (D.may_leave disk.old) }
-    ensures cause { HasCause (D.faults_of disk.old) (D.faults_of disk.new) result }
-    ensures honest { D.is_honest disk.new ≡ D.is_honest disk.old }
-    ensures loan { D.loan disk.new ≡ D.loan disk.old }
-    ensures any_moment { (front body : List ℕ) → IsTrue (D.is_honest disk.old) → place ≡ length front → NoMore (InDoubt front body) (D.may_leave disk.old)
-        → LeavesOnly D.moment D.left_since disk.old disk.new (InDoubt front body) × NoMore (InDoubt front body) (D.may_leave disk.new) }
-    ensures set { OnOk result ((front body : List ℕ) → IsTrue (D.is_honest disk.old) → place ≡ length front → NoMore (InDoubt front body) (D.may_leave disk.old)
-        → NoMore (Doubtful front body gate) (D.may_leave disk.new)) }
+    requires place { IsTrue (D.words.honest disk.old)
+        → (front body : List ℕ) × IsGateAt D.words disk.old place front (InDoubt front body) }
+    ensures ok { OnOk result ((front body : List ℕ)
+        → IsGateAt D.words disk.old place front (InDoubt front body)
+        → NoMore (Doubtful front body gate) (D.words.may_leave disk.new)) }
+    ensures any_moment { (front body : List ℕ)
+        → IsGateAt D.words disk.old place front (InDoubt front body)
+        → Keeps D.words disk.old disk.new (InDoubt front body) }
+    ensures same { IsSameDisk D.words disk.old disk.new }
+    ensures cause { IsErr result → HasFailed D.words.faults disk.old disk.new }
 {
     disk.write_at(place, &[gate])?;
     disk.sync()?;
@@ -45,15 +50,18 @@ pub fn set_gate<D: Disk>(disk: &mut D, place: u64, gate: u8) -> Result<(), Faile
 /// Reads the gate at this place, and settles whether it is open: a sync keeps it so, or a closed gate is written.
 pub fn settle_at<D: Disk>(disk: &mut D, place: u64) -> Result<bool, Failed>
     requires small { place + 1 < 2 ^ 63 }
-    requires place { IsTrue (D.is_honest disk.old) → (front : List ℕ) × (body : List ℕ) × (place ≡ length front) × NoMore (InDoubt front body) (D.may_leave disk.old) }
-    ensures cause { HasCause (D.faults_of disk.old) (D.faults_of disk.new) result }
-    ensures honest { D.is_honest disk.new ≡ D.is_honest disk.old }
-    ensures loan { D.loan disk.new ≡ D.loan disk.old }
-    ensures any_moment { (front body : List ℕ) → IsTrue (D.is_honest disk.old) → place ≡ length front → NoMore (InDoubt front body) (D.may_leave disk.old)
-        → LeavesOnly D.moment D.left_since disk.old disk.new (InDoubt front body) × NoMore (InDoubt front body) (D.may_leave disk.new) }
-    ensures exact { IfOk result (λ kept. IsTrue (D.is_honest disk.old) → kept ≡ (slice_index (D.seen disk.old) place == 1)) }
-    ensures settled { IfOk result (λ kept. (front body : List ℕ) → IsTrue (D.is_honest disk.old) → place ≡ length front → NoMore (InDoubt front body) (D.may_leave disk.old)
-        → NoMore (Closed (if kept then front ++ text body else front)) (D.may_leave disk.new)) }
+    requires place { IsTrue (D.words.honest disk.old)
+        → (front body : List ℕ) × IsGateAt D.words disk.old place front (InDoubt front body) }
+    ensures value { IfOk result (λ kept. IsTrue (D.words.honest disk.old)
+        → kept ≡ (slice_index (D.words.seen disk.old) place == 1)) }
+    ensures ok { IfOk result (λ kept. (front body : List ℕ)
+        → IsGateAt D.words disk.old place front (InDoubt front body)
+        → NoMore (Closed (if kept then front ++ text body else front)) (D.words.may_leave disk.new)) }
+    ensures any_moment { (front body : List ℕ)
+        → IsGateAt D.words disk.old place front (InDoubt front body)
+        → Keeps D.words disk.old disk.new (InDoubt front body) }
+    ensures same { IsSameDisk D.words disk.old disk.new }
+    ensures cause { IsErr result → HasFailed D.words.faults disk.old disk.new }
 {
     let mut gate = [0];
     disk.read(place, &mut gate)?;

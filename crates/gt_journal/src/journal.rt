@@ -1,11 +1,12 @@
-ghost use Rattle.std.specs.Prelude.{◌≡◌, ◌⊎◌, ◌+◌, ◌-◌, ◌^◌, ◌<◌, ◌≤◌, ◌++◌, [], ◌∷◌, List, ℕ, Option, None, Some, length, is_some, IsTrue, IfOk, IfErr, OnOk, OnErr, IsErr, IsOkAnd};
-ghost use Rattle.gt_causes.specs.Causes.{HasCause, Rose};
-ghost use Rattle.gt_disk.specs.Disk.{Only, LeavesOnly, NoMore};
-ghost use Rattle.gt_journal.specs.JournalText.{IsJournalText, IsFront, IsDamagedAfter};
-ghost use Rattle.gt_journal.specs.Opening.{lists, IsDamagedAs, IsClosedAt};
+ghost use Rattle.std.specs.Prelude.{◌≡◌, ◌+◌, ◌^◌, ◌<◌, ◌≤◌, ◌++◌, [], ◌∷◌, List, ℕ, None, Some, length, is_some, IsTrue, IfOk, IfErr, OnOk, IsErr};
+ghost use Rattle.gt_causes.specs.Causes.{HasFailed};
+ghost use Rattle.gt_disk.specs.Disk.{IsSameDisk, LeavesOnly};
+ghost use Rattle.gt_journal.specs.JournalText.{IsDamagedAfter, IsTextWithDoubt};
+ghost use Rattle.gt_journal.specs.Journal.{IsSameJournal, Rests};
+ghost use Rattle.gt_journal.specs.Calls.{IsAdded, IsNotAdded, IsUnsettled, Settles};
+ghost use Rattle.gt_journal.specs.Reading.{lists};
+ghost use Rattle.gt_journal.specs.Opening.{IsFresh, IsNotOpened, IsOpened, disk_in};
 ghost use Rattle.gt_journal.specs.declared.open_fault.OpenFault.TheVariants.{JournalFault as DiskFault};
-ghost use Rattle.gt_journal.specs.Kept.{Kept, IsTextWithDoubt};
-ghost use Rattle.gt_journal.specs.Settles.{Settles};
 
 use crate::frame::fill;
 use crate::gates::{set_gate, settle_at, stage};
@@ -36,20 +37,14 @@ pub struct Journal<D: Disk> {
 }
 
 impl<D: Disk> Model for Journal<D> {
-    ghost use Rattle.std.specs.Prelude.{◌-◌, length, take};
-    ghost use Rattle.gt_journal.specs.Kept.{Kept, bodies_of, doubt_of, IsConsistent};
+    ghost use Rattle.gt_journal.specs.Journal as spec;
+    ghost use Rattle.gt_journal.specs.Journal.{IsConsistent, journal_of};
 
-    ghost Value = { Kept D };
+    ghost Value = { spec.Journal D };
 
-    ghost view = { λ j. record {
-      disk = j.disk;
-      front = take j.place (D.seen j.disk);
-      bodies = bodies_of (take j.place (D.seen j.disk));
-      doubt = doubt_of j.pending j.place (D.seen j.disk);
-      room = length j.buffer.items - 9;
-    } };
+    ghost view = { λ j. journal_of D.words j.disk j.place j.pending j.buffer.items };
 
-    ghost invariant = { λ j. IsConsistent (D.is_honest j.disk) (D.seen j.disk) (D.may_leave j.disk) j.place j.pending (length j.buffer.items) };
+    ghost invariant = { λ j. IsConsistent D.words j.disk j.place j.pending j.buffer.items };
 }
 
 impl<D: Disk> Journal<D> {
@@ -57,28 +52,15 @@ impl<D: Disk> Journal<D> {
     /// makes a sync, asks the length, reads in pieces of 65,536 bytes, and where fewer than 9 bytes follow the records
     /// it writes one byte 0 there and makes a sync. An `Err` hands the disk back.
     pub fn open(alloc: Global, disk: D) -> Result<(Journal<D>, Vec<Vec<u8>>), (OpenFault, D)>
-        ensures bodies { IfOk result (λ r. IsTrue (D.is_honest disk) → (r.0.bodies ≡ lists r.1.items) × IsJournalText r.0.bodies (D.seen disk)) }
-        ensures front { IfOk result (λ r. IsTrue (D.is_honest disk) → IsFront r.0.bodies r.0.front × IsClosedAt (D.seen disk) (length r.0.front) (D.seen r.0.disk)) }
-        ensures settled { IfOk result (λ r. r.0.doubt ≡ None) }
-        ensures few { IfOk result (λ r. length r.0.bodies < 2 ^ 63) }
-
-        // From a moment on when the file as it read was all on the disk, a crash leaves these bodies, and before it what it might have left at the start.
-        ensures since_sync { IfOk result (λ r. IsTrue (D.is_honest disk) → (synced : D) × LeavesOnly D.moment D.left_since disk synced (D.may_leave disk)
-            × Only (D.seen disk) (D.may_leave synced) × LeavesOnly D.moment D.left_since synced r.0.disk (IsJournalText r.0.bodies)) }
-        ensures since_sync_err { IfErr result (λ e. IsTrue (D.is_honest disk) → LeavesOnly D.moment D.left_since disk e.1
-            (λ c. D.may_leave disk c ⊎ ((bodies : List (List ℕ)) × IsJournalText bodies (D.seen disk) × IsJournalText bodies c))) }
-        ensures images { IfOk result (λ r. IsTrue (D.is_honest disk) → NoMore (IsJournalText r.0.bodies) (D.may_leave r.0.disk)) }
-
-        // Each refusal has its cause, and a damaged file is refused.
-        ensures damaged { IfErr result (λ e. IsTrue (D.is_honest disk) → IsDamagedAs e.0 (D.seen disk)) }
-        ensures refused { (bodies : List (List ℕ)) → IsTrue (D.is_honest disk) → IsDamagedAfter bodies (D.seen disk) → IsErr result }
-        ensures cause { IfErr result (λ e. e.0 ≡ DiskFault → Rose (D.faults_of disk) (D.faults_of e.1)) }
-        ensures later { IfOk result (λ r. D.faults_of disk ≤ D.faults_of r.0.disk) }
-        ensures later_err { IfErr result (λ e. D.faults_of disk ≤ D.faults_of e.1) }
-        ensures honest { IfOk result (λ r. D.is_honest r.0.disk ≡ D.is_honest disk) }
-        ensures honest_err { IfErr result (λ e. D.is_honest e.1 ≡ D.is_honest disk) }
-        ensures loan { IfOk result (λ r. D.loan r.0.disk ≡ D.loan disk) }
-        ensures loan_err { IfErr result (λ e. D.loan e.1 ≡ D.loan disk) }
+        ensures clear { IfOk result (λ opened. IsFresh (lists opened.1.items) opened.0) }
+        ensures images { IfOk result (λ opened. Rests D.words opened.0) }
+        ensures ok { IfOk result (λ opened. IsTrue (D.words.honest disk)
+            → IsOpened D.words disk (lists opened.1.items) opened.0) }
+        ensures err { IfErr result (λ refused. IsTrue (D.words.honest disk)
+            → IsNotOpened D.words disk refused.0 refused.1) }
+        ensures same { IsSameDisk D.words disk (disk_in result) }
+        ensures cause { IfErr result (λ refused. refused.0 ≡ DiskFault
+            → HasFailed D.words.faults disk refused.1) }
     {
         let mut disk = disk;
         let buffer = match first_buffer(alloc) {
@@ -99,11 +81,12 @@ impl<D: Disk> Journal<D> {
         }
     }
 
-    /// Makes room for a body of so many bytes, so that an append of it takes no memory.
+    /// Makes room for a body of so many bytes, so that an append of it takes no memory. It takes no room away.
     pub fn reserve(&mut self, bytes: u64) -> Result<(), AllocError>
-        ensures room { OnOk result (bytes ≤ self.new.room) }
-        ensures room_err { OnErr result (self.new.room ≡ self.old.room) }
-        ensures same { (self.new.disk ≡ self.old.disk) × (self.new.front ≡ self.old.front) × (self.new.bodies ≡ self.old.bodies) × (self.new.doubt ≡ self.old.doubt) }
+        ensures ok { OnOk result (bytes ≤ self.new.room) }
+        ensures err { IsErr result → self.new ≡ self.old }
+        ensures room { self.old.room ≤ self.new.room }
+        ensures same { self.new ≡ record self.old { room = self.new.room } }
     {
         let want = (bytes as usize).checked_add(AROUND).ok_or(AllocError)?;
         if self.buffer.len() < want {
@@ -114,25 +97,22 @@ impl<D: Disk> Journal<D> {
 
     /// Whether the last append left its body in doubt.
     pub fn in_doubt(&self) -> bool
-        ensures doubt { result ≡ is_some self.now.doubt }
-        ensures few { length self.now.bodies < 2 ^ 63 }
-        ensures front { IsTrue (D.is_honest self.now.disk) → IsFront self.now.bodies self.now.front }
-        // Between two calls a crash leaves what stands for the bodies, with the one in doubt or without.
-        ensures images { IsTrue (D.is_honest self.now.disk) → NoMore (IsTextWithDoubt self.now.bodies self.now.doubt) (D.may_leave self.now.disk) }
+        ensures value { result ≡ is_some self.now.doubt }
+        ensures images { Rests D.words self.now }
     {
         self.pending.is_some()
     }
 
     /// The disk's count of faults.
     pub fn faults(&self) -> u64
-        ensures { result ≡ D.faults_of self.now.disk }
+        ensures value { result ≡ D.words.faults self.now.disk }
     {
         self.disk.faults()
     }
 
     /// The disk, as it is.
     pub fn close(self) -> D
-        ensures { result ≡ self.disk }
+        ensures value { result ≡ self.disk }
     {
         self.disk
     }
@@ -141,26 +121,20 @@ impl<D: Disk> Journal<D> {
     /// sync. After `Ok` every later crash keeps it. A fault of the first two leaves nothing in doubt, one of the last
     /// two leaves the body in doubt. It takes no memory.
     pub fn append(&mut self, body: &[u8]) -> Result<(), JournalFault>
-        requires settled { self.old.doubt ≡ None }
+        requires clear { self.old.doubt ≡ None }
         requires room { length body.now ≤ self.old.room }
 
-        ensures ok { OnOk result (IsTrue (D.is_honest self.old.disk) → self.new.bodies ≡ self.old.bodies ++ body.now ∷ []) }
-        ensures settled { OnOk result (self.new.doubt ≡ None) }
-        ensures err { IsErr result → IsTrue (D.is_honest self.old.disk) → self.new.bodies ≡ self.old.bodies }
-        ensures in_doubt { IsErr result → IsTrue (D.is_honest self.old.disk) → (self.new.doubt ≡ None) ⊎ (self.new.doubt ≡ Some body.now) }
-        ensures room { self.new.room ≡ self.old.room }
-        ensures few { length self.new.bodies < 2 ^ 63 }
+        ensures ok { OnOk result (IsAdded D.words self.old body.now self.new) }
+        ensures err { IsErr result → IsNotAdded D.words self.old body.now self.new }
 
         // A crash at any moment of the call leaves the bodies from before it, with the new one or without.
-        ensures any_moment { IsTrue (D.is_honest self.old.disk) → LeavesOnly D.moment D.left_since self.old.disk self.new.disk (IsTextWithDoubt self.old.bodies (Some body.now)) }
-        // Where it failed and nothing is in doubt, none was ever with it.
-        ensures unwritten { IsErr result → self.new.doubt ≡ None → IsTrue (D.is_honest self.old.disk) → LeavesOnly D.moment D.left_since self.old.disk self.new.disk (IsJournalText self.old.bodies) }
-        // From now on, until the next call, a crash leaves what stands for the bodies.
-        ensures later { IsTrue (D.is_honest self.old.disk) → NoMore (IsTextWithDoubt self.new.bodies self.new.doubt) (D.may_leave self.new.disk) }
+        ensures any_moment { IsTrue (D.words.honest self.old.disk)
+            → LeavesOnly D.words self.old.disk self.new.disk
+            (IsTextWithDoubt self.old.bodies (Some body.now)) }
+        ensures images { Rests D.words self.new }
 
-        ensures cause { HasCause (D.faults_of self.old.disk) (D.faults_of self.new.disk) result }
-        ensures honest { D.is_honest self.new.disk ≡ D.is_honest self.old.disk }
-        ensures loan { D.loan self.new.disk ≡ D.loan self.old.disk }
+        ensures same { IsSameJournal D.words self.old self.new }
+        ensures cause { IsErr result → HasFailed D.words.faults self.old.disk self.new.disk }
     {
         let size = body.len();
         fill(&mut self.buffer, body);
@@ -176,20 +150,17 @@ impl<D: Disk> Journal<D> {
     /// sync. After `Ok` nothing is in doubt, and every later crash agrees. After an `Err` it still is. Where nothing is
     /// in doubt no call is made. It takes no memory.
     pub fn settle(&mut self) -> Result<Settled, JournalFault>
-        ensures ok { IfOk result (λ settled. IsTrue (D.is_honest self.old.disk) → Settles (D.seen self.old.disk) self.old.front self.old.bodies self.old.doubt settled self.new.bodies) }
-        ensures settled { OnOk result (self.new.doubt ≡ None) }
-        ensures nothing { self.old.doubt ≡ None → IsOkAnd result (λ settled. settled ≡ Settled.Nothing) × (self.new.disk ≡ self.old.disk) }
-        ensures err { IsErr result → IsTrue (D.is_honest self.old.disk) → (self.new.bodies ≡ self.old.bodies) × (self.new.doubt ≡ self.old.doubt) }
-        ensures room { self.new.room ≡ self.old.room }
-        ensures few { length self.new.bodies < 2 ^ 63 }
+        ensures ok { IfOk result (λ settled. Settles D.words self.old settled self.new) }
+        ensures err { IsErr result → IsUnsettled D.words self.old self.new }
 
         // A crash at any moment of the call leaves the bodies from before it, with the one in doubt or without.
-        ensures any_moment { IsTrue (D.is_honest self.old.disk) → LeavesOnly D.moment D.left_since self.old.disk self.new.disk (IsTextWithDoubt self.old.bodies self.old.doubt) }
-        ensures later { IsTrue (D.is_honest self.old.disk) → NoMore (IsTextWithDoubt self.new.bodies self.new.doubt) (D.may_leave self.new.disk) }
+        ensures any_moment { IsTrue (D.words.honest self.old.disk)
+            → LeavesOnly D.words self.old.disk self.new.disk
+            (IsTextWithDoubt self.old.bodies self.old.doubt) }
+        ensures images { Rests D.words self.new }
 
-        ensures cause { HasCause (D.faults_of self.old.disk) (D.faults_of self.new.disk) result }
-        ensures honest { D.is_honest self.new.disk ≡ D.is_honest self.old.disk }
-        ensures loan { D.loan self.new.disk ≡ D.loan self.old.disk }
+        ensures same { IsSameJournal D.words self.old self.new }
+        ensures cause { IsErr result → HasFailed D.words.faults self.old.disk self.new.disk }
     {
         let Some(size) = self.pending else {
             return Ok(Settled::Nothing);

@@ -1,7 +1,7 @@
 ghost use Rattle.std.specs.Prelude.{◌≡◌};
 ghost use Rattle.gt_journal.specs.declared.open_fault.OpenFault.TheVariants.{JournalFault, OutOfMemory};
 
-use gt_disk::Failed;
+use gt_causes::Failed;
 use std::alloc::{AllocError, AllocFailed};
 use thiserror::Error;
 

@@ -1,49 +1,47 @@
 // The disk's part of an opening.
-ghost use Rattle.std.specs.Prelude.{◌≡◌, ◌⊎◌, ◌+◌, ◌^◌, ◌<◌, ◌≤◌, [], ◌∷◌, List, ℕ, length, drop, Vec, IsTrue, IfOk, IfErr, OnOk, IsErrOf};
-ghost use Rattle.gt_causes.specs.Causes.{HasCause, Rose};
-ghost use Rattle.gt_disk.specs.Disk.{Holds, Only, LeavesOnly, NoMore};
+ghost use Rattle.std.specs.Prelude.{◌≡◌, ◌⊎◌, ◌+◌, ◌*◌, ◌^◌, ◌<◌, ◌≤◌, [], ◌∷◌, List, ℕ, length, drop, Vec, IsTrue, IfOk, IfErr, IsErr, IsErrOf, OnOk};
+ghost use Rattle.gt_causes.specs.Causes.{HasFailed};
+ghost use Rattle.gt_causes.specs.Outcomes.{NoMore, Only};
+ghost use Rattle.gt_disk.specs.Disk.{Holds, IsSameDisk, LeavesOnly};
 ghost use Rattle.gt_journal.specs.JournalText.{texts, IsJournalText};
 ghost use Rattle.gt_journal.specs.Gates.{Closed};
-ghost use Rattle.gt_journal.specs.Opening.{lists, IsDamagedAs, IsNoDamage, IsClosedAt};
+ghost use Rattle.gt_journal.specs.Reading.{lists};
+ghost use Rattle.gt_journal.specs.Opening.{IfSynced, IsNoDamage, IsNotOpened};
+ghost use Rattle.gt_journal.specs.Finding.{IsEndClosed, IsFileRead, IsFound, IsShortEnd};
 
 use crate::OpenFault;
 use crate::pieces::read_pieces;
-use crate::reading::read_bodies;
-use gt_disk::{Disk, Failed};
+use crate::reading::Reading;
+use gt_causes::Failed;
+use gt_disk::Disk;
 use std::alloc::Global;
 
-/// Makes a sync and reads the whole file.
-fn read_file<D: Disk>(alloc: Global, disk: &mut D) -> Result<Vec<u8>, OpenFault>
-    ensures later { D.faults_of disk.old ≤ D.faults_of disk.new }
-    ensures cause { IsErrOf result OpenFault.JournalFault → Rose (D.faults_of disk.old) (D.faults_of disk.new) }
-    ensures no_damage { IfErr result IsNoDamage }
-    ensures honest { D.is_honest disk.new ≡ D.is_honest disk.old }
-    ensures loan { D.loan disk.new ≡ D.loan disk.old }
-    ensures any_moment { IsTrue (D.is_honest disk.old) → LeavesOnly D.moment D.left_since disk.old disk.new (D.may_leave disk.old) }
-    ensures seen { OnOk result (IsTrue (D.is_honest disk.old) → D.seen disk.new ≡ D.seen disk.old) }
-    ensures durable { OnOk result (IsTrue (D.is_honest disk.old) → Only (D.seen disk.old) (D.may_leave disk.new)) }
-    ensures bytes { IfOk result (λ bytes. IsTrue (D.is_honest disk.old) → bytes.items ≡ D.seen disk.old) }
+/// Makes a sync and reads the whole file, and tells its length.
+fn read_file<D: Disk>(alloc: Global, disk: &mut D) -> Result<(Reading, u64), OpenFault>
+    ensures ok { IfOk result (λ read. IsFileRead D.words disk.old read.0 read.1 disk.new) }
+    ensures err { IsErr result → IsTrue (D.words.honest disk.old)
+        → IfSynced D.words disk.old disk.new (λ c. c ≡ D.words.seen disk.old) }
+    ensures fault { IfErr result IsNoDamage }
+    ensures same { IsSameDisk D.words disk.old disk.new }
+    ensures cause { IsErrOf result OpenFault.JournalFault
+        → HasFailed D.words.faults disk.old disk.new }
 {
     disk.sync()?;
-    let length = disk.len()?;
-    let mut bytes = Vec::new(alloc);
-    bytes.resize(length as usize, 0)?;
-    read_pieces(disk, &mut bytes)?;
-    Ok(bytes)
+    let size = disk.len()?;
+    let reading = read_pieces(alloc, disk, size)?;
+    Ok((reading, size))
 }
 
 /// Puts a closed gate behind the records, where what stands there is too short for one, and makes a sync.
 fn close_end<D: Disk>(disk: &mut D, place: u64) -> Result<(), Failed>
-    requires place { IsTrue (D.is_honest disk.old) → place ≤ length (D.seen disk.old) }
-    ensures cause { HasCause (D.faults_of disk.old) (D.faults_of disk.new) result }
+    requires { IsTrue (D.words.honest disk.old) → place ≤ length (D.words.seen disk.old) }
+    ensures ok { OnOk result ((bodies : List (List ℕ))
+        → IsShortEnd D.words disk.old place bodies → IsEndClosed D.words disk.old place bodies disk.new) }
     ensures room { OnOk result (place + 1 < 2 ^ 63) }
-    ensures honest { D.is_honest disk.new ≡ D.is_honest disk.old }
-    ensures loan { D.loan disk.new ≡ D.loan disk.old }
-    ensures any_moment { (bodies : List (List ℕ)) → IsTrue (D.is_honest disk.old) → IsJournalText bodies (D.seen disk.old) → Only (D.seen disk.old) (D.may_leave disk.old)
-        → place ≡ length (texts bodies) → length (drop place (D.seen disk.old)) < 9 → LeavesOnly D.moment D.left_since disk.old disk.new (IsJournalText bodies) }
-    ensures closed { OnOk result ((bodies : List (List ℕ)) → IsTrue (D.is_honest disk.old) → IsJournalText bodies (D.seen disk.old)
-        → place ≡ length (texts bodies) → NoMore (Closed (texts bodies)) (D.may_leave disk.new)) }
-    ensures written { OnOk result (IsTrue (D.is_honest disk.old) → Holds (D.seen disk.old) place (0 ∷ []) (D.seen disk.new)) }
+    ensures any_moment { (bodies : List (List ℕ)) → IsShortEnd D.words disk.old place bodies
+        → LeavesOnly D.words disk.old disk.new (IsJournalText bodies) }
+    ensures same { IsSameDisk D.words disk.old disk.new }
+    ensures cause { IsErr result → HasFailed D.words.faults disk.old disk.new }
 {
     disk.write_at(place, &[0])?;
     disk.sync()?;
@@ -52,33 +50,27 @@ fn close_end<D: Disk>(disk: &mut D, place: u64) -> Result<(), Failed>
 
 /// Reads the bodies, closes the end of the file, and says where the next record's gate stands.
 pub fn open_disk<D: Disk>(alloc: Global, disk: &mut D) -> Result<(Vec<Vec<u8>>, u64), OpenFault>
-    ensures later { D.faults_of disk.old ≤ D.faults_of disk.new }
-    ensures cause { IsErrOf result OpenFault.JournalFault → Rose (D.faults_of disk.old) (D.faults_of disk.new) }
-    ensures honest { D.is_honest disk.new ≡ D.is_honest disk.old }
-    ensures loan { D.loan disk.new ≡ D.loan disk.old }
-    ensures damaged { IfErr result (λ fault. IsTrue (D.is_honest disk.old) → IsDamagedAs fault (D.seen disk.old)) }
-    ensures place { IfOk result (λ found. IsTrue (D.is_honest disk.old) → found.1 ≡ length (texts (lists found.0.items))) }
-    ensures room { IfOk result (λ found. found.1 + 1 < 2 ^ 63) }
-    ensures bodies { IfOk result (λ found. IsTrue (D.is_honest disk.old) → IsJournalText (lists found.0.items) (D.seen disk.old)) }
-    ensures closed { IfOk result (λ found. IsTrue (D.is_honest disk.old) → NoMore (Closed (texts (lists found.0.items))) (D.may_leave disk.new)) }
-    ensures end { IfOk result (λ found. IsTrue (D.is_honest disk.old) → IsClosedAt (D.seen disk.old) found.1 (D.seen disk.new)) }
-    // From a moment on when the file as it read was all on the disk, a crash leaves these bodies, and before it what it might have left at the start.
-    ensures since_sync { IfOk result (λ found. IsTrue (D.is_honest disk.old) → (synced : D) × LeavesOnly D.moment D.left_since disk.old synced (D.may_leave disk.old)
-        × Only (D.seen disk.old) (D.may_leave synced) × LeavesOnly D.moment D.left_since synced disk.new (IsJournalText (lists found.0.items))) }
-    ensures any_moment { IsTrue (D.is_honest disk.old) → LeavesOnly D.moment D.left_since disk.old disk.new
-        (λ c. D.may_leave disk.old c ⊎ ((bodies : List (List ℕ)) × IsJournalText bodies (D.seen disk.old) × IsJournalText bodies c)) }
+    ensures ok { IfOk result (λ found. IsTrue (D.words.honest disk.old)
+        → IsFound D.words disk.old (lists found.0.items) found.1 disk.new) }
+    ensures room { IfOk result (λ found. (9 * length (lists found.0.items) ≤ found.1)
+        × (found.1 + 1 < 2 ^ 63)) }
+    ensures err { IfErr result (λ fault. IsTrue (D.words.honest disk.old)
+        → IsNotOpened D.words disk.old fault disk.new) }
+    ensures same { IsSameDisk D.words disk.old disk.new }
+    ensures cause { IsErrOf result OpenFault.JournalFault
+        → HasFailed D.words.faults disk.old disk.new }
 {
-    let bytes = read_file(alloc, disk)?;
-    let (bodies, rest, damaged) = read_bodies(alloc, &bytes)?;
+    let (reading, size) = read_file(alloc, disk)?;
+    let damaged = reading.is_cut_off();
+    let rest = reading.rest_len();
+    let bodies = reading.bodies;
     if damaged {
         let at_record = bodies.len() as u64;
         return Err(OpenFault::Damaged { at_record, bodies });
     }
-    let place = (bytes.len() - rest.len()) as u64;
-    if rest.len() < 9 {
+    let place = size - rest as u64;
+    if rest < 9 {
         close_end(disk, place)?;
-        Ok((bodies, place))
-    } else {
-        Ok((bodies, place))
     }
+    Ok((bodies, place))
 }

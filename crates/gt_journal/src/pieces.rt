@@ -1,29 +1,38 @@
 // A file is read in pieces, into one buffer.
-ghost use Rattle.std.specs.Prelude.{◌≡◌, ◌≤◌, List, ℕ, length, take, IsTrue, OnOk};
-ghost use Rattle.gt_causes.specs.Causes.{HasCause};
-ghost use Rattle.gt_disk.specs.Disk.{LeavesOnly, NoMore};
+ghost use Rattle.std.specs.Prelude.{◌≡◌, ◌≤◌, List, ℕ, length, take, IsTrue, IfOk, IfErr, IsErrOf};
+ghost use Rattle.gt_causes.specs.Causes.{HasFailed};
+ghost use Rattle.gt_disk.specs.Disk.{IsSameDisk};
+ghost use Rattle.gt_journal.specs.Reading.{IsPartial, HasRead, HasLooked};
+ghost use Rattle.gt_journal.specs.Opening.{IsNoDamage};
 
-use gt_disk::{Disk, Failed};
+use crate::OpenFault;
+use crate::reading::Reading;
+use gt_disk::Disk;
+use std::alloc::Global;
 
 // The most bytes of one read.
-const PIECE: usize = 65_536;
+const PIECE: u64 = 65_536;
 
-/// Fills the buffer with the first bytes of the file, and makes no read of no bytes.
-pub fn read_pieces<D: Disk>(disk: &mut D, bytes: &mut [u8]) -> Result<(), Failed>
-    requires { IsTrue (D.is_honest disk.old) → length bytes.old ≤ length (D.seen disk.old) }
-    ensures cause { HasCause (D.faults_of disk.old) (D.faults_of disk.new) result }
-    ensures honest { D.is_honest disk.new ≡ D.is_honest disk.old }
-    ensures loan { D.loan disk.new ≡ D.loan disk.old }
-    ensures seen { IsTrue (D.is_honest disk.old) → D.seen disk.new ≡ D.seen disk.old }
-    ensures crash { IsTrue (D.is_honest disk.old) → NoMore (D.may_leave disk.old) (D.may_leave disk.new) }
-    ensures any_moment { IsTrue (D.is_honest disk.old) → LeavesOnly D.moment D.left_since disk.old disk.new (D.may_leave disk.old) }
-    ensures bytes { OnOk result (IsTrue (D.is_honest disk.old) → bytes.new ≡ take (length bytes.old) (D.seen disk.old)) }
+/// Reads so many bytes of the file from its start on, and makes no read of no bytes.
+pub fn read_pieces<D: Disk>(alloc: Global, disk: &mut D, size: u64) -> Result<Reading, OpenFault>
+    requires { IsTrue (D.words.honest disk.old) → size ≤ length (D.words.seen disk.old) }
+    ensures ok { IfOk result (λ reading. IsPartial reading × HasRead D.words disk.old size reading) }
+    ensures told { IsTrue (D.words.honest disk.old) → HasLooked D.words disk.old disk.new }
+    ensures fault { IfErr result IsNoDamage }
+    ensures same { IsSameDisk D.words disk.old disk.new }
+    ensures cause { IsErrOf result OpenFault.JournalFault
+        → HasFailed D.words.faults disk.old disk.new }
 {
+    let mut piece = Vec::new(alloc);
+    piece.resize(size.min(PIECE) as usize, 0)?;
+    let mut reading = Reading::new(alloc);
     let mut at = 0;
-    while at < bytes.len() {
-        let size = (bytes.len() - at).min(PIECE);
-        disk.read(at as u64, &mut bytes[at..at + size])?;
-        at += size;
+    while at < size {
+        let more = (size - at).min(PIECE);
+        let bytes = &mut piece[..more as usize];
+        disk.read(at, bytes)?;
+        reading.read_on(alloc, bytes)?;
+        at += more;
     }
-    Ok(())
+    Ok(reading)
 }

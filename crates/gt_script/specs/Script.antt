@@ -1,7 +1,7 @@
 -- The text of a script: the texts of its lines, one after another.
 use Rattle.gt_setup.specs.Setup.{Setup}
 use Rattle.gt_types.specs.declared.command.Command.{Command}
-use Rattle.gt_types.specs.declared.command.Command.TheVariants.{AddAccess, EndAccess, IssueId, ListAccess, ListSkipped, ListSuccesses, ListTasks, ReplaceAccess, ShowAccess, ShowEndpoint, ShowTask, SubmitTransfer}
+use Rattle.gt_types.specs.declared.command.Command.TheVariants.{AddAccess, AddPause, CancelTask, EndAccess, EndPause, IssueId, ListAccess, ListPauses, ListSkipped, ListSuccesses, ListTasks, ReplaceAccess, ShowAccess, ShowEndpoint, ShowPause, ShowTask, SubmitDelete, SubmitTransfer, UpdateTask}
 use Rattle.std.specs.Prelude.{Bool, List, Option, Some, [], false, length, true, ◌++◌, ◌∷◌, ◌≡◌, ◌≤◌, ℕ}
 use Rattle.gt_script.specs.CommandLine.{IsCommandText, most_command_bytes}
 use Rattle.gt_script.specs.Submission.{submitted}
@@ -35,6 +35,13 @@ is_asked (AddAccess collection spec) = false
 is_asked (ShowAccess collection rule) = false
 is_asked (EndAccess collection rule) = false
 is_asked (ReplaceAccess collection rule write) = false
+is_asked (SubmitDelete submission spec) = false
+is_asked (UpdateTask task label deadline) = false
+is_asked (CancelTask task) = false
+is_asked ListPauses = false
+is_asked (AddPause spec) = false
+is_asked (ShowPause rule) = false
+is_asked (EndPause rule) = false
 
 -- behind the command line `send`, with its newline, its body and a newline make this request
 pub record IsRequest (setup : Setup) (route : Route) (size : ℕ) (command : Command) (rest : List ℕ) : Type 0 where

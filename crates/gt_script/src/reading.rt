@@ -1,6 +1,7 @@
-ghost use Rattle.gt_causes.specs.Causes.{Rose};
+ghost use Rattle.gt_causes.specs.Causes.{HasFailed};
 ghost use Rattle.gt_script.specs.Reading.{BeginsCommand, BeginsNoLine, BeginsWith, BreaksOff, BreaksOffBody, GoesOn, GoesOnNowhere, HasNoBody, IsGoodCommand, IsGoodLine, IsGoodRequest, Stops, StopsBehind};
 ghost use Rattle.gt_script.specs.Script.{command_of, most_script_bytes};
+ghost use Rattle.gt_streams.specs.Streams.{IsSameSource};
 ghost use Rattle.std.specs.Prelude.{IfErr, IfOk, IfSome, IsErrOf, IsTrue, length, ◌++◌, ◌+◌, ◌<◌, ◌≡◌, ◌≤◌, ◌∷◌};
 
 use crate::command_line::{CommandLine, Route, read_command};
@@ -29,14 +30,17 @@ pub fn read_script_line<S: Source>(
     taken: &mut u64,
 ) -> Result<Line, ScriptFault>
     requires { taken.old < most_script_bytes }
-    ensures line { IfOk result (λ line. IsTrue (S.is_told script.old) → BeginsWith setup.now line taken.old (S.left script.old) (S.left script.new) taken.new) }
+    ensures line { IfOk result (λ line. IsTrue (S.words.told script.old)
+        → BeginsWith setup.now line taken.old (S.words.left script.old) (S.words.left script.new) taken.new) }
     ensures good { IfOk result (IsGoodLine setup.now) }
-    ensures refused { IsErrOf result ScriptFault.Refused → IsTrue (S.is_told script.old) → BeginsNoLine setup.now taken.old (S.left script.old) }
-    ensures stopped { IfErr result (λ fault. IsTrue (S.is_told script.old) → Stops setup.now taken.old (S.left script.old) (S.left script.new) fault) }
+    ensures refused { IsErrOf result ScriptFault.Refused → IsTrue (S.words.told script.old)
+        → BeginsNoLine setup.now taken.old (S.words.left script.old) }
+    ensures stopped { IfErr result (λ fault. IsTrue (S.words.told script.old)
+        → Stops setup.now taken.old (S.words.left script.old) (S.words.left script.new) fault) }
     ensures counted { IfOk result (λ _. (taken.old < taken.new) × (taken.new ≤ most_script_bytes)) }
-    ensures fault { IsErrOf result ScriptFault.SourceFault → Rose (S.faults_of script.old) (S.faults_of script.new) }
-    ensures later { S.faults_of script.old ≤ S.faults_of script.new }
-    ensures told { S.is_told script.new ≡ S.is_told script.old }
+    ensures cause { IsErrOf result ScriptFault.SourceFault
+        → HasFailed S.words.faults script.old script.new }
+    ensures same { IsSameSource S.words script.old script.new }
 {
     match read_command_line(alloc, setup, script, taken) {
         Ok(command_line) => read_rest(alloc, setup, script, command_line, taken),
@@ -52,14 +56,17 @@ fn read_command_line<S: Source>(
     taken: &mut u64,
 ) -> Result<CommandLine, ScriptFault>
     requires { taken.old < most_script_bytes }
-    ensures command { IfOk result (λ line. IsTrue (S.is_told script.old) → BeginsCommand setup.now line taken.old (S.left script.old) (S.left script.new) taken.new) }
+    ensures command { IfOk result (λ line. IsTrue (S.words.told script.old)
+        → BeginsCommand setup.now line taken.old (S.words.left script.old) (S.words.left script.new) taken.new) }
     ensures good { IfOk result (IsGoodCommand setup.now) }
-    ensures refused { IsErrOf result ScriptFault.Refused → IsTrue (S.is_told script.old) → BeginsNoLine setup.now taken.old (S.left script.old) }
-    ensures stopped { IfErr result (λ _. IsTrue (S.is_told script.old) → BreaksOff setup.now taken.old (S.left script.old) (S.left script.new)) }
+    ensures refused { IsErrOf result ScriptFault.Refused → IsTrue (S.words.told script.old)
+        → BeginsNoLine setup.now taken.old (S.words.left script.old) }
+    ensures stopped { IfErr result (λ _. IsTrue (S.words.told script.old)
+        → BreaksOff setup.now taken.old (S.words.left script.old) (S.words.left script.new)) }
     ensures counted { IfOk result (λ _. (taken.old < taken.new) × (taken.new ≤ most_script_bytes)) }
-    ensures fault { IsErrOf result ScriptFault.SourceFault → Rose (S.faults_of script.old) (S.faults_of script.new) }
-    ensures later { S.faults_of script.old ≤ S.faults_of script.new }
-    ensures told { S.is_told script.new ≡ S.is_told script.old }
+    ensures cause { IsErrOf result ScriptFault.SourceFault
+        → HasFailed S.words.faults script.old script.new }
+    ensures same { IsSameSource S.words script.old script.new }
 {
     let mut command = Vec::new(alloc);
     let end = read_line(script, COMMAND_LIMIT, &mut command);
@@ -91,14 +98,17 @@ fn read_rest<S: Source>(
 ) -> Result<Line, ScriptFault>
     requires fits { taken.old ≤ most_script_bytes }
     requires good_command { IsGoodCommand setup.now command_line }
-    ensures line { IfOk result (λ line. IsTrue (S.is_told script.old) → GoesOn setup.now command_line line taken.old (S.left script.old) (S.left script.new) taken.new) }
+    ensures line { IfOk result (λ line. IsTrue (S.words.told script.old)
+        → GoesOn setup.now command_line line taken.old (S.words.left script.old) (S.words.left script.new) taken.new) }
     ensures good { IfOk result (IsGoodLine setup.now) }
-    ensures refused { IsErrOf result ScriptFault.Refused → IsTrue (S.is_told script.old) → GoesOnNowhere setup.now command_line taken.old (S.left script.old) }
-    ensures stopped { IfErr result (λ fault. IsTrue (S.is_told script.old) → StopsBehind setup.now command_line taken.old (S.left script.old) (S.left script.new) fault) }
+    ensures refused { IsErrOf result ScriptFault.Refused → IsTrue (S.words.told script.old)
+        → GoesOnNowhere setup.now command_line taken.old (S.words.left script.old) }
+    ensures stopped { IfErr result (λ fault. IsTrue (S.words.told script.old)
+        → StopsBehind setup.now command_line taken.old (S.words.left script.old) (S.words.left script.new) fault) }
     ensures counted { IfOk result (λ _. (taken.old ≤ taken.new) × (taken.new ≤ most_script_bytes)) }
-    ensures fault { IsErrOf result ScriptFault.SourceFault → Rose (S.faults_of script.old) (S.faults_of script.new) }
-    ensures later { S.faults_of script.old ≤ S.faults_of script.new }
-    ensures told { S.is_told script.new ≡ S.is_told script.old }
+    ensures cause { IsErrOf result ScriptFault.SourceFault
+        → HasFailed S.words.faults script.old script.new }
+    ensures same { IsSameSource S.words script.old script.new }
 {
     match command_line {
         CommandLine::End => Ok(Line::End),
@@ -127,13 +137,17 @@ fn read_body<S: Source>(
     taken: &mut u64,
 ) -> Result<Vec<u8>, ScriptFault>
     requires { taken.old ≤ most_script_bytes }
-    ensures body { IfOk result (λ body. IsTrue (S.is_told script.old) → S.left script.old ≡ body.items ++ 10 ∷ S.left script.new) }
-    ensures counted { IfOk result (λ body. (length body.items ≡ size) × (taken.old + size + 1 ≡ taken.new) × (taken.new ≤ most_script_bytes)) }
-    ensures refused { IsErrOf result ScriptFault.Refused → IsTrue (S.is_told script.old) → HasNoBody size taken.old (S.left script.old) }
-    ensures stopped { IfErr result (λ _. IsTrue (S.is_told script.old) → BreaksOffBody size taken.old (S.left script.old) (S.left script.new)) }
-    ensures fault { IsErrOf result ScriptFault.SourceFault → Rose (S.faults_of script.old) (S.faults_of script.new) }
-    ensures later { S.faults_of script.old ≤ S.faults_of script.new }
-    ensures told { S.is_told script.new ≡ S.is_told script.old }
+    ensures body { IfOk result (λ body. IsTrue (S.words.told script.old)
+        → S.words.left script.old ≡ body.items ++ 10 ∷ S.words.left script.new) }
+    ensures counted { IfOk result (λ body. (length body.items ≡ size)
+        × (taken.old + size + 1 ≡ taken.new) × (taken.new ≤ most_script_bytes)) }
+    ensures refused { IsErrOf result ScriptFault.Refused → IsTrue (S.words.told script.old)
+        → HasNoBody size taken.old (S.words.left script.old) }
+    ensures stopped { IfErr result (λ _. IsTrue (S.words.told script.old)
+        → BreaksOffBody size taken.old (S.words.left script.old) (S.words.left script.new)) }
+    ensures cause { IsErrOf result ScriptFault.SourceFault
+        → HasFailed S.words.faults script.old script.new }
+    ensures same { IsSameSource S.words script.old script.new }
 {
     if size >= SCRIPT_LIMIT - *taken {
         return Err(ScriptFault::Refused);

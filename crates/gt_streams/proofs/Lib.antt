@@ -1,2 +1,2 @@
-pub mod ReadingLemmas
-pub mod PieceLemmas
+mod ReadingLemmas
+mod PieceLemmas

@@ -1,2 +1,4 @@
+pub mod Streams
 pub mod Reading
 pub mod Memory
+pub mod Suite

@@ -1,34 +1,44 @@
--- A source and a sink in memory, as contracts see them.
-use Rattle.gt_streams.specs.declared.source.Failed.{Failed}
-use Rattle.std.specs.Prelude.{Err, List, Ok, Result, drop, min, take, ◌++◌, ◌+◌, ◌-◌, ◌^◌, ℕ}
+-- A source and a sink in memory, as contracts see them, and what their calls do.
+use Rattle.gt_causes.specs.Counts.{Counts, CountsCall, IsListed, after_answer, after_fault}
+use Rattle.gt_streams.specs.Streams.{SinkWords, SourceWords}
+use Rattle.std.specs.Prelude.{Contains, IfOk, IsErr, List, Result, drop, length, min, take, true, ◌++◌, ◌≡◌, ◌↔◌, ℕ}
 
--- the bytes left, the most that a read gives, the calls that fail, and how many calls were made and failed
+-- the bytes left, the most that a read gives, and what it counts
 pub record SourceState : Type 0 where
   pub left : List ℕ
   pub piece : ℕ
-  pub fails : List ℕ
-  pub calls : ℕ
-  pub faults : ℕ
+  pub counts : Counts
 
--- the bytes taken, the most that a write takes, the calls that fail, and how many calls were made, failed, and found no memory
+-- what is said of it
+abbrev pub source_words : SourceWords SourceState
+source_words = record { faults = λ s. s.counts.faults; told = λ s. true; left = λ s. s.left }
+
+-- none of these calls was made, and those listed are to fail
+pub record IsFresh (fails : List ℕ) (counts : Counts) : Type 0 where
+  pub fresh : counts ≡ record { fails = counts.fails; calls = 0; faults = 0; starved = 0 }
+  pub listed : (n : ℕ) → Contains counts.fails n ↔ Contains fails n
+
+-- A read fails exactly where its number is listed, and else gives as much as it may.
+pub record Gives {E : Type 0} (old : SourceState) (before : List ℕ) (result : Result ℕ E) (after : List ℕ) (new : SourceState) : Type 0 where
+  pub number : IfOk result (λ n. n ≡ min (min (length before) old.piece) (length old.left))
+  pub given : IfOk result (λ n. after ≡ take n old.left ++ drop n before)
+  pub ok : IfOk result (λ n. new ≡ record old { left = drop n old.left; counts = after_answer old.counts })
+  pub err : IsErr result → new ≡ record old { counts = after_fault old.counts }
+  pub listed : IsErr result ↔ IsListed old.counts
+
+-- the bytes taken, the most that a write takes, and what it counts
 pub record SinkState : Type 0 where
   pub taken : List ℕ
   pub piece : ℕ
-  pub fails : List ℕ
-  pub calls : ℕ
-  pub faults : ℕ
-  pub starved : ℕ
+  pub counts : Counts
 
--- one more, but never above the last number of 8 bytes
-abbrev pub counted : ℕ → ℕ
-counted n = min (n + 1) (2 ^ 64 - 1)
+-- what is said of it
+abbrev pub sink_words : SinkWords SinkState
+sink_words = record { faults = λ s. s.counts.faults; told = λ s. true; taken = λ s. s.taken }
 
--- the source after a read that gave this answer
-abbrev pub after_read : SourceState → Result ℕ Failed → SourceState
-after_read source (Ok n) = record source { left = drop n source.left; calls = counted source.calls }
-after_read source (Err failed) = record source { calls = counted source.calls; faults = counted source.faults }
-
--- the sink after a write of these bytes that gave this answer, and that number of writes without memory
-abbrev pub after_write : SinkState → List ℕ → Result ℕ Failed → ℕ → SinkState
-after_write sink from (Ok n) starved = record sink { taken = sink.taken ++ take n from; calls = counted sink.calls; starved = starved }
-after_write sink from (Err failed) starved = record sink { calls = counted sink.calls; faults = counted sink.faults; starved = starved }
+-- A write takes as much as it may. It fails exactly where its number is listed, or where it found no memory.
+pub record Takes {E : Type 0} (old : SinkState) (from : List ℕ) (result : Result ℕ E) (new : SinkState) : Type 0 where
+  pub number : IfOk result (λ n. n ≡ min (length from) old.piece)
+  pub ok : IfOk result (λ n. new ≡ record old { taken = old.taken ++ take n from; counts = new.counts })
+  pub err : IsErr result → new ≡ record old { counts = new.counts }
+  pub counted : CountsCall old.counts new.counts ⊥ result

@@ -46,6 +46,16 @@ NumbersLine max (Err ReadFault) number = number < max
 NumbersLine max (Err OutOfMemory) number = number < max
 NumbersLine max (Err (Cut have want)) number = ⊥
 
+-- What reading a line answers and hands out, of every source: no newline, and so many bytes.
+pub record HandsOutLine (max : ℕ) (result : Result LineEnd StreamFault) (bytes : List ℕ) : Type 0 where
+  pub plain : HasNoNewline bytes
+  pub numbers : NumbersLine max result (length bytes)
+
+-- What reading a line takes of the bytes left, and which answer comes: only a fault or want of memory takes its place.
+pub record ReadsLine (max : ℕ) (before : List ℕ) (result : Result LineEnd StreamFault) (bytes after : List ℕ) : Type 0 where
+  pub taken : TakesLine before result bytes after
+  pub answer : IsUnlessFault (line_end_of max before) result
+
 -- of the bytes left before, these were handed out, and where the answer is a cut none is left
 abbrev pub TakesBytes : List ℕ → Result Unit StreamFault → List ℕ → List ℕ → Type 0
 TakesBytes before (Ok done) bytes after = before ≡ bytes ++ after
@@ -61,3 +71,8 @@ NumbersBytes want (Err (Cut have most)) number = (have ≡ number) × (most ≡ 
 NumbersBytes want (Err ReadFault) number = number < want
 NumbersBytes want (Err OutOfMemory) number = number < want
 NumbersBytes want (Err (TooLong max)) number = ⊥
+
+-- What reading so many bytes takes of those left, and which answer comes: only a fault or want of memory takes its place.
+pub record ReadsBytes (want : ℕ) (before : List ℕ) (result : Result Unit StreamFault) (bytes after : List ℕ) : Type 0 where
+  pub taken : TakesBytes before result bytes after
+  pub answer : IsUnlessFault (bytes_end_of want before) result

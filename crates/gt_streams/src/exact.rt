@@ -1,6 +1,7 @@
-ghost use Rattle.gt_causes.specs.Causes.{Rose};
-ghost use Rattle.gt_streams.specs.Reading.{IsUnlessFault, NumbersBytes, TakesBytes, bytes_end_of};
-ghost use Rattle.std.specs.Prelude.{IsErrOf, IsTrue, length, ◌≡◌, ◌≤◌};
+ghost use Rattle.gt_causes.specs.Causes.{HasFailed};
+ghost use Rattle.gt_streams.specs.Reading.{NumbersBytes, ReadsBytes};
+ghost use Rattle.gt_streams.specs.Streams.{IsSameSource};
+ghost use Rattle.std.specs.Prelude.{IsErrOf, IsTrue, length};
 
 use crate::{Source, StreamFault};
 
@@ -17,16 +18,14 @@ pub fn read_exactly<S: Source>(
     want: u64,
     into: &mut Vec<u8>,
 ) -> Result<(), StreamFault>
-    // What was taken, and what `into` holds.
-    ensures bytes { IsTrue (S.is_told source.old) → TakesBytes (S.left source.old) result into.new.items (S.left source.new) }
-    ensures numbers { NumbersBytes want result (length into.new.items) }
-
-    // Which answer comes, and that only a fault of the source or want of memory takes its place.
-    ensures exact { IsTrue (S.is_told source.old) → IsUnlessFault (bytes_end_of want (S.left source.old)) result }
-    ensures fault { IsErrOf result StreamFault.ReadFault → Rose (S.faults_of source.old) (S.faults_of source.new) }
-
-    ensures later { S.faults_of source.old ≤ S.faults_of source.new }
-    ensures told { S.is_told source.new ≡ S.is_told source.old }
+    ensures same { IsSameSource S.words source.old source.new }
+    ensures cause { IsErrOf result StreamFault.ReadFault
+        → HasFailed S.words.faults source.old source.new }
+    // The answer and the number of bytes handed out, of every source.
+    ensures value { NumbersBytes want result (length into.new.items) }
+    ensures told { IsTrue (S.words.told source.old)
+        → ReadsBytes want (S.words.left source.old) result into.new.items
+        (S.words.left source.new) }
 {
     into.clear();
     let mut piece = [0; PIECE];

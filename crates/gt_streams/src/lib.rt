@@ -11,7 +11,8 @@ mod mem_sink;
 mod mem_source;
 mod sink;
 mod source;
-pub mod suite;
+mod suite;
+mod suite_fault;
 #[cfg(test)]
 mod tests;
 
@@ -20,4 +21,6 @@ pub use line::{LineEnd, StreamFault, read_line};
 pub use mem_sink::MemSink;
 pub use mem_source::MemSource;
 pub use sink::{Partial, Sink, write_all};
-pub use source::{Failed, Source};
+pub use source::Source;
+pub use suite::{sink_suite, source_suite};
+pub use suite_fault::SuiteFault;

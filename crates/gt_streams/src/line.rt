@@ -1,6 +1,7 @@
-ghost use Rattle.gt_causes.specs.Causes.{Rose};
-ghost use Rattle.gt_streams.specs.Reading.{HasNoNewline, IsUnlessFault, NumbersLine, TakesLine, line_end_of};
-ghost use Rattle.std.specs.Prelude.{IsErrOf, IsTrue, length, ◌≡◌, ◌≤◌};
+ghost use Rattle.gt_causes.specs.Causes.{HasFailed};
+ghost use Rattle.gt_streams.specs.Reading.{HandsOutLine, ReadsLine};
+ghost use Rattle.gt_streams.specs.Streams.{IsSameSource};
+ghost use Rattle.std.specs.Prelude.{IsErrOf, IsTrue};
 
 use crate::Source;
 use thiserror::Error;
@@ -40,17 +41,13 @@ pub fn read_line<S: Source>(
     max: u32,
     into: &mut Vec<u8>,
 ) -> Result<LineEnd, StreamFault>
-    // What was taken, and what `into` holds.
-    ensures bytes { IsTrue (S.is_told source.old) → TakesLine (S.left source.old) result into.new.items (S.left source.new) }
-    ensures plain { HasNoNewline into.new.items }
-    ensures numbers { NumbersLine max result (length into.new.items) }
-
-    // Which answer comes, and that only a fault of the source or want of memory takes its place.
-    ensures exact { IsTrue (S.is_told source.old) → IsUnlessFault (line_end_of max (S.left source.old)) result }
-    ensures fault { IsErrOf result StreamFault.ReadFault → Rose (S.faults_of source.old) (S.faults_of source.new) }
-
-    ensures later { S.faults_of source.old ≤ S.faults_of source.new }
-    ensures told { S.is_told source.new ≡ S.is_told source.old }
+    ensures same { IsSameSource S.words source.old source.new }
+    ensures cause { IsErrOf result StreamFault.ReadFault
+        → HasFailed S.words.faults source.old source.new }
+    // The answer and the bytes handed out, of every source.
+    ensures value { HandsOutLine max result into.new.items }
+    ensures told { IsTrue (S.words.told source.old)
+        → ReadsLine max (S.words.left source.old) result into.new.items (S.words.left source.new) }
 {
     into.clear();
     while into.len() < max as usize {

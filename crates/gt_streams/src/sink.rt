@@ -1,35 +1,30 @@
-ghost use Rattle.gt_causes.specs.Causes.{HasCause};
-ghost use Rattle.std.specs.Prelude.{Bool, IfErr, IfOk, IsErr, IsTrue, List, OnOk, [], false, length, take, ◌++◌, ◌<◌, ◌≡◌, ◌≤◌, ℕ};
+ghost use Rattle.gt_causes.specs.Causes.{HasFailed};
+ghost use Rattle.gt_streams.specs.Streams.{IsSameSink, SinkAnswer, SinkWords, WritesAll};
+ghost use Rattle.std.specs.Prelude.{IfErr, IfOk, IsErr, IsTrue, [], length, ◌<◌, ◌≡◌, ◌≤◌};
 
-use crate::Failed;
+use gt_causes::Failed;
 use thiserror::Error;
 
 /// A place for bytes.
 ///
 /// What it took is told by objects in memory. A real sink tells nothing of it, and is known by its count of faults.
 pub trait Sink {
-    /// How often a write has failed. The number never falls, and stops at 2^64 - 1.
-    ghost faults_of: { Self → ℕ };
-
-    /// Whether it tells what it took.
-    ghost is_told: { Self → Bool } = { λ _. false };
-
-    /// The bytes that it took.
-    ghost taken: { Self → List ℕ } = { λ _. [] };
+    /// All that is said of it.
+    ghost words: { SinkWords Self };
 
     /// The count of faults.
     fn faults(&self) -> u64
-        ensures { result ≡ faults_of self.now };
+        ensures { result ≡ words.faults self.now };
 
     /// Takes bytes from the front of `from`, and says how many: at least one where there is one. A sink that can take none
     /// raises its count and answers `Failed`. A write that answers `Failed` takes nothing.
     fn write(&mut self, from: &[u8]) -> Result<usize, Failed>
-        ensures cause { HasCause (faults_of self.old) (faults_of self.new) result }
-        ensures told { is_told self.new ≡ is_told self.old }
-        ensures size { IfOk result (λ n. n ≤ length from.now) }
-        ensures some { IfOk result (λ n. 0 < length from.now → 0 < n) }
-        ensures bytes { IfOk result (λ n. IsTrue (is_told self.old) → taken self.new ≡ taken self.old ++ take n from.now) }
-        ensures failed { IsErr result → IsTrue (is_told self.old) → taken self.new ≡ taken self.old };
+        ensures same { IsSameSink words self.old self.new }
+        ensures cause { IsErr result → HasFailed words.faults self.old self.new }
+        ensures room { IfOk result (λ n. n ≤ length from.now) }
+        ensures ok { IfOk result (λ n. 0 < length from.now → 0 < n) }
+        ensures told { IsTrue (words.told self.old)
+            → SinkAnswer words self.old from.now result self.new };
 }
 
 /// The sink failed after it had taken `wrote` bytes, fewer than all.
@@ -43,12 +38,12 @@ pub struct Partial {
 ///
 /// `Partial` comes only where a write failed. The sink has then taken exactly the first `wrote` bytes.
 pub fn write_all<K: Sink>(sink: &mut K, bytes: &[u8]) -> Result<(), Partial>
-    ensures cause { HasCause (K.faults_of sink.old) (K.faults_of sink.new) result }
-    ensures told { K.is_told sink.new ≡ K.is_told sink.old }
-    ensures whole { OnOk result (IsTrue (K.is_told sink.old) → K.taken sink.new ≡ K.taken sink.old ++ bytes.now) }
-    ensures part { IfErr result (λ e. IsTrue (K.is_told sink.old) → K.taken sink.new ≡ K.taken sink.old ++ take e.wrote bytes.now) }
-    ensures not_all { IfErr result (λ e. e.wrote < length bytes.now) }
-    ensures empty { bytes.now ≡ [] → sink.new ≡ sink.old }
+    ensures same { IsSameSink K.words sink.old sink.new }
+    ensures cause { IsErr result → HasFailed K.words.faults sink.old sink.new }
+    ensures room { IfErr result (λ e. e.wrote < length bytes.now) }
+    ensures told { IsTrue (K.words.told sink.old)
+        → WritesAll K.words sink.old bytes.now result sink.new }
+    ensures nothing { bytes.now ≡ [] → sink.new ≡ sink.old }
 {
     let mut wrote = 0;
     while wrote < bytes.len() {

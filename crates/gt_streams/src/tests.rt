@@ -1,9 +1,8 @@
 ghost use Rattle.std.specs.Prelude.{◌≤◌};
 
-use crate::suite::{check_sink, check_source};
 use crate::{
-    LineEnd, MemSink, MemSource, Partial, Sink, Source, StreamFault, read_exactly, read_line,
-    write_all,
+    LineEnd, MemSink, MemSource, Partial, Sink, Source, StreamFault, SuiteFault, read_exactly,
+    read_line, sink_suite, source_suite, write_all,
 };
 use std::alloc::{AllocError, Global};
 use std::test::Fail;
@@ -22,9 +21,9 @@ fn all_bytes_pass_in_any_pieces(rt: HostRuntime) -> Result<(), Fail> {
     let bytes = vec![in alloc; 7; 10_000]?;
     for piece in PIECES {
         assert!(rt; piece >= 1);
-        check_source(alloc, &mut source(alloc, &bytes, piece, &[])?, &bytes)?;
+        source_suite(alloc, &mut source(alloc, &bytes, piece, &[])?, &bytes)?;
         let mut sink = MemSink::new(alloc, piece, Vec::new(alloc));
-        check_sink(&mut sink, &bytes)?;
+        sink_suite(&mut sink, &bytes)?;
         assert!(rt; sink.bytes() == bytes.as_slice());
         assert_eq!(rt; sink.faults(), 0);
     }
@@ -71,7 +70,7 @@ fn line_and_exact_reads(rt: HostRuntime) -> Result<(), Fail> {
     assert_eq!(rt; into.as_slice(), b"ab".as_slice());
     let mut none = source(alloc, b"ab", 1, &[])?;
     assert!(rt; read_line(&mut none, 0, &mut into) == Err(StreamFault::TooLong { max: 0 }));
-    check_source(alloc, &mut none, b"ab")?;
+    source_suite(alloc, &mut none, b"ab")?;
     let mut cut = source(alloc, b"ab", 1, &[])?;
     assert!(rt; read_exactly(&mut cut, 3, &mut into) == Err(StreamFault::Cut { have: 2, want: 3 }));
     assert_eq!(rt; into.as_slice(), b"ab".as_slice());

@@ -9,8 +9,8 @@ pub returns-in-Ok-Some-clause-line : goal.returns-in-Ok-Some-clause-line
 returns-in-Ok-Some-clause-line g c told =
     let setup = c.args.setup.now in
     let body = c.in_ok-body-in-Send.body.items in
-    let before = g.S.Source.left c.args.script.now in
-    let after = g.S.Source.left c.read_body.new.script in
+    let before = g.S.Source.words.left c.args.script.now in
+    let after = g.S.Source.words.left c.read_body.new.script in
     let value = rw c.in-Ok-Some.field-0-is at c.in-Ok-Some.ensures.value in
     let asked = ap (command_of setup c.in-Send.route) (sym c.deref.ensures.value) ∙ sym value in
     let (sized, count, fits) = c.in_ok-body-in-Send.ensures.counted in
@@ -21,8 +21,8 @@ pub returns-in-Ok-None-clause-refused : goal.returns-in-Ok-None-clause-refused
 returns-in-Ok-None-clause-refused g c is told =
     let setup = c.args.setup.now in
     let body = c.in_ok-body-in-Send.body.items in
-    let before = g.S.Source.left c.args.script.now in
-    let after = g.S.Source.left c.read_body.new.script in
+    let before = g.S.Source.words.left c.args.script.now in
+    let after = g.S.Source.words.left c.read_body.new.script in
     let value = rw c.in-Ok-None.field-0-is at c.in-Ok-None.ensures.value in
     let none = ap (command_of setup c.in-Send.route) (sym c.deref.ensures.value) ∙ sym value in
     subst (λ h. GoesOnNowhere setup h c.args.taken.now before) (sym c.in-Send.is)
@@ -32,8 +32,8 @@ pub returns-in-Ok-None-clause-stopped : goal.returns-in-Ok-None-clause-stopped
 returns-in-Ok-None-clause-stopped g c told =
     let setup = c.args.setup.now in
     let body = c.in_ok-body-in-Send.body.items in
-    let before = g.S.Source.left c.args.script.now in
-    let after = g.S.Source.left c.read_body.new.script in
+    let before = g.S.Source.words.left c.args.script.now in
+    let after = g.S.Source.words.left c.read_body.new.script in
     let value = rw c.in-Ok-None.field-0-is at c.in-Ok-None.ensures.value in
     let none = ap (command_of setup c.in-Send.route) (sym c.deref.ensures.value) ∙ sym value in
     let gone = body ++ 10 ∷ [] in
@@ -47,8 +47,8 @@ pub returns-clause-stopped : goal.returns-clause-stopped
 returns-clause-stopped g c told =
     let setup = c.args.setup.now in
     let body = c.in_ok-body-in-Send.body.items in
-    let before = g.S.Source.left c.args.script.now in
-    let after = g.S.Source.left c.read_body.new.script in
+    let before = g.S.Source.words.left c.args.script.now in
+    let after = g.S.Source.words.left c.read_body.new.script in
     subst (λ h. TakesOneRest setup h c.args.taken.now before after) (sym c.in-Send.is) (record {
       gone = body ++ 10 ∷ [];
       whole = c.in_ok-body-in-Send.ensures.body told ∙ sym (append_assoc body (10 ∷ []) after);

@@ -9,16 +9,15 @@ loop-wrote-preserved g c =
     let wrote = c.loop-wrote.wrote in
     let more = c.in-Ok.more in
     record {
-      size = omega (arith, c.in-Ok.ensures.size, length-drop wrote bytes);
-      later = omega (arith, c.write.ensures.cause.later);
-      told = search rules;
+      size = omega (arith, c.in-Ok.ensures.room, length-drop wrote bytes);
+      same = search rules;
       bytes = λ told.
-          let now = subst IsTrue (sym c.loop-wrote.invariant.told) told in
+          let now = subst IsTrue (sym c.loop-wrote.invariant.same.told) told in
           let whole : take (length bytes - wrote) (drop wrote bytes) ≡ drop wrote bytes = take_all _ _ (omega (arith, length-drop wrote bytes)) in
-          c.in-Ok.ensures.bytes now
-          ∙ ap (λ b. g.K.Sink.taken c.loop-wrote.sink ++ take more b) whole
+          (c.in-Ok.ensures.told now).ok
+          ∙ ap (λ b. g.K.Sink.words.taken c.loop-wrote.sink ++ take more b) whole
           ∙ ap (λ b. b ++ take more (drop wrote bytes)) (c.loop-wrote.invariant.bytes told)
-          ∙ append_assoc (g.K.Sink.taken c.args.sink.now) (take wrote bytes) (take more (drop wrote bytes))
-          ∙ ap (λ b. g.K.Sink.taken c.args.sink.now ++ b) (sym (take-add wrote more bytes));
+          ∙ append_assoc (g.K.Sink.words.taken c.args.sink.now) (take wrote bytes) (take more (drop wrote bytes))
+          ∙ ap (λ b. g.K.Sink.words.taken c.args.sink.now ++ b) (sym (take-add wrote more bytes));
       untouched = λ empty. absurd (omega (arith, empty, c.loop-wrote-test.true));
     }

@@ -13,7 +13,7 @@ invariant_of-self-in-Ok c =
     let same : (state_of c.args.self.now.start c.args.self.now.steps).seen ≡ seen = ap (λ v. (state_of v.start v.steps).seen) (sym c.self.view_is) in
     let within : c.args.at ≤ length seen = subst (λ (l : List ℕ). c.args.at ≤ length l) same c.requires in
     let is = c.self.invariant.is in
-    let put = c.in-Ok.ensures.file in
+    let put = c.in-Ok.ensures.ok_file in
     let torn = torn_overlaid seen c.args.at from within in
     let now = put ∙ ap (λ (l : List ℕ). overlaid l c.args.at from) is in
     replayed_more m.start.items steps (steps_of c.note_write.new.noted.items) (Write c.args.at from) c.in-Ok.ensures.ok m.bytes.items c.note_write.new.file.items c.self.invariant
