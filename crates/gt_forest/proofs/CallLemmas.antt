@@ -1,5 +1,5 @@
 -- What the changes of a tree in memory are as changes of a tree.
-use Rattle.gt_forest.proofs.MapLemmas.{name_cmp, not_there}
+use Rattle.gt_forest.proofs.MapLemmas.{not_there}
 use Rattle.gt_forest.proofs.TreeLemmas.{changed_others, held-child, keeps_both, keeps_path, put_at, put_others, same_held, same_tree}
 use Rattle.gt_forest.specs.Calls.{IsPlaced}
 use Rattle.gt_forest.specs.Rows.{ChangesFolder, Contents, Folders, IsWhole, KeepsOthers, PutsEntry, PutsStage, SameFolders, Stages, contents_of, entry_at, entry_of, held_at, staged_at, tree_of}
@@ -7,7 +7,7 @@ use Rattle.gt_forest.specs.Tree.{HasEntries, Tree, is_file, is_folder}
 use Rattle.gt_forest.specs.declared.node.Node.{Node}
 use Rattle.gt_forest.specs.declared.node.Node.TheVariants.{File, Folder}
 use Rattle.gt_paths.specs.Path.{PathValue, child_path}
-use Rattle.std.proofs.Common.{Bool, IsSome, List, None, Option, Some, [], ap, arith, cond, false, is_eq, is_none, is_some, length, option_and_then, option_map, refl, subst, sym, true, true≢false, ◌==◌, ◌∙◌, ◌∷◌, ◌≡◌, ◌≢◌, ℕ}
+use Rattle.std.proofs.Common.{Bool, IsSome, List, None, Option, Some, [], ap, cond, false, is_eq, is_none, is_some, length, option_and_then, option_map, refl, subst, sym, true, true≢false, ◌==◌, ◌∙◌, ◌∷◌, ◌≡◌, ℕ}
 use Rattle.std.specs.Cmp.Lexicographic.{nat_list_cmp_total}
 use Rattle.std.specs.Cmp.{tied_itself}
 use Rattle.std.specs.Option.{option_map_or}

@@ -1,6 +1,8 @@
-pub mod MapLemmas
-pub mod TreeLemmas
-pub mod ListingLemmas
-pub mod CallLemmas
-pub mod ForestLemmas
-pub mod WholeLemmas
+mod MapLemmas
+mod TreeLemmas
+mod ListingLemmas
+mod CallLemmas
+mod ForestLemmas
+mod ImplLemmas
+mod KeepLemmas
+mod DecidedLemmas

@@ -4,17 +4,15 @@ use Rattle.gt_forest.specs.Listing.{IsAfter, IsBefore, IsListing, kind_of, names
 use Rattle.gt_forest.specs.Rows.{Contents, IsIndexed, entry_of, later_entries, listed, start_of}
 use Rattle.gt_forest.specs.declared.node.Node.{Node}
 use Rattle.gt_paths.specs.Path.{PathValue, child_path}
-use Rattle.gt_types.specs.declared.listing.Entry.{Entry}
-use Rattle.std.proofs.Common.{All, Bool, Contains, Equal, Greater, IsSome, Less, List, None, Option, Ordering, Some, [], ap, arith, cond, drop, false, filter, inl, inr, is_eq, is_lt, length, length-drop, length-take, map, min, not, option_map, refl, subst, sym, suc, take, take-append-drop, true, true≢false, zero, ◌&&◌, ◌++◌, ◌∙◌, ◌∷◌, ◌≡◌, ◌≤◌, ◌<◌, ◌⊎◌, ℕ}
+use Rattle.std.proofs.Common.{All, Bool, Contains, Equal, Greater, IsSome, Less, List, None, Option, Ordering, Some, [], ap, arith, cond, drop, false, filter, inl, inr, is_eq, is_lt, length, length-drop, length-take, map, option_map, refl, subst, sym, suc, take, take-append-drop, true, true≢false, zero, ◌&&◌, ◌++◌, ◌∙◌, ◌∷◌, ◌≡◌, ◌≤◌, ◌<◌, ℕ}
 use Rattle.std.proofs.lemmas.List.Elements.{All-contains, All-filter, All-from_recursion, All-map, All-take, All-weaker, Contains-append_cases, Contains-append_right, filter_passes}
 use Rattle.std.proofs.lemmas.List.Kept.{IsStrictlySortedBy-filter}
 use Rattle.std.proofs.lemmas.List.{length-map}
 use Rattle.std.specs.BTreeMap.Range.{range_contains}
-use Rattle.std.specs.BTreeMap.{is_at}
-use Rattle.std.specs.declared.ops.Bound.TheVariants.{Excluded, Unbounded}
+use Rattle.std.specs.declared.ops.Bound.TheVariants.{Unbounded}
 use Rattle.std.specs.List.Sorted.{IsStrictlySortedBy}
 use Rattle.std.specs.List.{AllByRecursion}
-use Rattle.std.specs.Map.{keys_of, lookup}
+use Rattle.std.specs.Map.{keys_of}
 
 front : {X : Type 0} (P : X → Type 0) (xs ys : List X) → AllByRecursion P (xs ++ ys) → AllByRecursion P xs
 front P [] ys all = tt

@@ -1,13 +1,12 @@
 -- Paths by their folder and name, and the trees that rows hold.
-use Rattle.gt_forest.proofs.MapLemmas.{either_name, either_path}
-use Rattle.gt_forest.specs.Rows.{ChangesFolder, Contents, Folders, IsWhole, KeepsOthers, PutsEntry, PutsFolder, PutsStage, SameFolders, Stages, contents_of, entry_at, entry_of, held_at, staged_at}
+use Rattle.gt_forest.proofs.MapLemmas.{either_path}
+use Rattle.gt_forest.specs.Rows.{ChangesFolder, Contents, Folders, IsWhole, KeepsOthers, PutsEntry, SameFolders, contents_of, entry_at, entry_of, held_at}
 use Rattle.gt_forest.specs.Tree.{Tree, is_folder, place_of}
 use Rattle.gt_forest.specs.declared.node.Node.{Node}
 use Rattle.gt_paths.specs.Path.{PathValue, child_path}
-use Rattle.std.proofs.Common.{Bool, IsSome, List, None, Option, Some, [], ap, arith, eqb-true, false, get_or, inl, inr, is_some, length, length-append, ne_eqb, option_and_then, option_map, refl, subst, sym, take, true, true≢false, ◌++◌, ◌+◌, ◌==◌, ◌∙◌, ◌∷◌, ◌||◌, ◌≡◌, ◌≢◌, ◌⊎◌, ℕ}
+use Rattle.std.proofs.Common.{Bool, List, None, Option, Some, [], ap, arith, eqb-true, false, get_or, inl, inr, is_some, length, length-append, ne_eqb, option_and_then, option_map, refl, subst, sym, take, true, ◌++◌, ◌+◌, ◌==◌, ◌∙◌, ◌∷◌, ◌||◌, ◌≡◌, ◌≢◌, ◌⊎◌, ℕ}
 use Rattle.std.proofs.Math.Seq.{take-append_seam}
 use Rattle.std.specs.Option.{option_map_or}
-use mathlib.Core.Path.{fun_ext}
 
 -- ---- paths
 

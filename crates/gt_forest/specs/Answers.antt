@@ -1,60 +1,60 @@
 -- When a call answers what, of those that it may answer, and what it leaves.
-use Rattle.std.specs.Prelude.{Bool, Err, IsErrOf, List, Ok, Option, Result, Some, false, true, ℕ, ◌≡◌, ◌≤◌, ◌⊎◌}
-use Rattle.gt_causes.specs.Causes.{Rose}
+use Rattle.std.specs.Prelude.{Bool, Err, Ok, Option, Result, Some, false, true, ℕ, ◌<◌, ◌^◌, ◌≡◌, ◌⊎◌}
 use Rattle.gt_paths.specs.Path.{PathValue}
+use Rattle.gt_types.specs.declared.listing.Stat.{Stat}
 use Rattle.gt_forest.specs.Tree.{Trees, node_at, stage_at}
 use Rattle.gt_forest.specs.declared.fault.TreeFault.{TreeFault}
 use Rattle.gt_forest.specs.declared.fault.TreeFault.TheVariants.{Denied, Fault, NotEmpty, NotFound, OutOfMemory, WrongKind}
 
--- the count of faults doesn't fall, and a fault is told only where it rose
-pub record HasFaultCause {T : Type 0} (before now : ℕ) (answer : Result T TreeFault) : Type 0 where
-  pub later : before ≤ now
-  pub fault : IsErrOf answer Fault → Rose before now
+-- what a call without `alloc` may answer, but to remove a folder
+abbrev pub may_answer : TreeFault → Bool
+may_answer NotFound = true
+may_answer Denied = true
+may_answer WrongKind = true
+may_answer NotEmpty = false
+may_answer Fault = true
+may_answer OutOfMemory = false
 
--- what a call that takes no memory may answer, but to remove a folder
-abbrev pub is_plain : TreeFault → Bool
-is_plain NotFound = true
-is_plain Denied = true
-is_plain WrongKind = true
-is_plain NotEmpty = false
-is_plain Fault = true
-is_plain OutOfMemory = false
-
--- what a call that takes memory may answer
-abbrev pub is_of_taking : TreeFault → Bool
-is_of_taking NotFound = true
-is_of_taking Denied = true
-is_of_taking WrongKind = true
-is_of_taking NotEmpty = false
-is_of_taking Fault = true
-is_of_taking OutOfMemory = true
+-- what a call with `alloc` may answer
+abbrev pub may_answer_taking : TreeFault → Bool
+may_answer_taking NotFound = true
+may_answer_taking Denied = true
+may_answer_taking WrongKind = true
+may_answer_taking NotEmpty = false
+may_answer_taking Fault = true
+may_answer_taking OutOfMemory = true
 
 -- what `stat` may answer
-abbrev pub is_of_stat : TreeFault → Bool
-is_of_stat NotFound = true
-is_of_stat Denied = true
-is_of_stat WrongKind = false
-is_of_stat NotEmpty = false
-is_of_stat Fault = true
-is_of_stat OutOfMemory = false
+abbrev pub may_answer_stat : TreeFault → Bool
+may_answer_stat NotFound = true
+may_answer_stat Denied = true
+may_answer_stat WrongKind = false
+may_answer_stat NotEmpty = false
+may_answer_stat Fault = true
+may_answer_stat OutOfMemory = false
 
--- what opening a staging file may answer
-abbrev pub is_of_opening : TreeFault → Bool
-is_of_opening NotFound = false
-is_of_opening Denied = false
-is_of_opening WrongKind = false
-is_of_opening NotEmpty = false
-is_of_opening Fault = true
-is_of_opening OutOfMemory = true
+-- what `stage_open` may answer
+abbrev pub may_answer_opening : TreeFault → Bool
+may_answer_opening NotFound = false
+may_answer_opening Denied = false
+may_answer_opening WrongKind = false
+may_answer_opening NotEmpty = false
+may_answer_opening Fault = true
+may_answer_opening OutOfMemory = true
 
--- what removing a folder may answer
-abbrev pub is_of_emptying : TreeFault → Bool
-is_of_emptying NotFound = true
-is_of_emptying Denied = true
-is_of_emptying WrongKind = true
-is_of_emptying NotEmpty = true
-is_of_emptying Fault = true
-is_of_emptying OutOfMemory = false
+-- what `remove_dir` may answer
+abbrev pub may_answer_emptying : TreeFault → Bool
+may_answer_emptying NotFound = true
+may_answer_emptying Denied = true
+may_answer_emptying WrongKind = true
+may_answer_emptying NotEmpty = true
+may_answer_emptying Fault = true
+may_answer_emptying OutOfMemory = false
+
+-- size and time are numbers of 64 bits
+pub record IsBounded (stat : Stat) : Type 0 where
+  pub size : stat.size < 2 ^ 64
+  pub mtime : stat.mtime < 2 ^ 64
 
 -- whether a fault is a failure of the forest
 abbrev pub is_failure : TreeFault → Bool
@@ -98,23 +98,24 @@ abbrev pub Reads : {T : Type 0} → Grounds → (T → Type 0) → Result T Tree
 Reads g IsRight (Ok value) = IsAllowed g × IsRight value
 Reads g IsRight (Err fault) = Refuses g fault
 
--- what a refused call leaves: all as it was, but that a fault may leave what it may
-abbrev pub Leaves : Grounds → (Same MayBe : Type 0) → TreeFault → Type 0
-Leaves g Same MayBe NotFound = Same
-Leaves g Same MayBe Denied = Same
-Leaves g Same MayBe WrongKind = Same
-Leaves g Same MayBe NotEmpty = Same
-Leaves g Same MayBe Fault = Same ⊎ (IsAllowed g × MayBe)
-Leaves g Same MayBe OutOfMemory = Same
+-- what a refused call makes of the trees: all is as it was, but that a fault may do what it may
+abbrev pub Stays : Grounds → (Same MayBe : Type 0) → TreeFault → Type 0
+Stays g Same MayBe NotFound = Same
+Stays g Same MayBe Denied = Same
+Stays g Same MayBe WrongKind = Same
+Stays g Same MayBe NotEmpty = Same
+Stays g Same MayBe Fault = Same ⊎ (IsAllowed g × MayBe)
+Stays g Same MayBe OutOfMemory = Same
 
 -- a call that writes: it is refused by these grounds, or it is done
 abbrev pub Writes : Grounds → (Same Done MayBe : Type 0) → Result Unit TreeFault → Type 0
 Writes g Same Done MayBe (Ok done) = IsAllowed g × Done
-Writes g Same Done MayBe (Err fault) = Refuses g fault × Leaves g Same MayBe fault
+Writes g Same Done MayBe (Err fault) = Refuses g fault × Stays g Same MayBe fault
 
 -- all else than this path and this key of the collection is as it was
-pub record ChangesOnly (collection : ℕ) (path : Option PathValue) (key : Option ℕ) (before after : Trees) : Type 0 where
+pub record ChangesOnly (collection : ℕ) (path : Option PathValue) (key : Option ℕ)
+    (before after : Trees) : Type 0 where
   pub paths : (c : ℕ) (p : PathValue) → (c ≡ collection → path ≡ Some p → ⊥) → node_at after c p ≡ node_at before c p
   pub stages : (c k : ℕ) → (c ≡ collection → key ≡ Some k → ⊥) → stage_at after c k ≡ stage_at before c k
-  pub denied : after.denied ≡ before.denied
+  pub denied : after.denies ≡ before.denies
   pub faithful : after.is_faithful ≡ before.is_faithful

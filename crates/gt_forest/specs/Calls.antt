@@ -1,16 +1,17 @@
 -- Each call as a relation between what was there before, its answer, and what is there after: on the tree that it is made
 -- on, and on all trees. `Same` says that nothing changed.
 use Rattle.std.specs.Option.{option_map}
-use Rattle.std.specs.Prelude.{Bool, IsTrue, List, None, Option, Result, Some, [], drop, false, is_none, is_some, length, not, take, ℕ, ◌++◌, ◌==◌, ◌||◌, ◌≡◌}
+use Rattle.std.specs.Prelude.{Bool, Err, IsTrue, List, None, Ok, Option, Result, Some, [], drop, false, is_none, is_some, length, not, take, true, ℕ, ◌++◌, ◌<◌, ◌==◌, ◌||◌, ◌≡◌}
 use Rattle.gt_paths.specs.Path.{PathValue}
 use Rattle.gt_types.specs.declared.listing.Entry.{Entry}
 use Rattle.gt_types.specs.declared.listing.Stat.{Stat}
 use Rattle.gt_forest.specs.Answers.{ChangesOnly, Grounds, Reads, Writes}
 use Rattle.gt_forest.specs.Listing.{IsListing, kind_of}
-use Rattle.gt_forest.specs.Tree.{HasEntries, Tree, Trees, has_parent, is_denied, is_file, is_folder}
+use Rattle.gt_forest.specs.Tree.{HasEntries, Tree, Trees, has_parent, is_file, is_folder}
 use Rattle.gt_forest.specs.declared.fault.TreeFault.{TreeFault}
 use Rattle.gt_forest.specs.declared.node.Node.{Node}
 use Rattle.gt_forest.specs.declared.node.Node.TheVariants.{File, Folder}
+use Rattle.gt_forest.specs.declared.fault.TreeFault.TheVariants.{Denied, Fault, NotEmpty, NotFound, OutOfMemory, WrongKind}
 
 -- no call but the removal of a folder is refused for what is in one
 abbrev pub grounds : Bool → Bool → Bool → Grounds
@@ -113,51 +114,128 @@ abbrev pub RemovesDir : Bool → Tree → PathValue → Tree → (Same : Type 0)
 RemovesDir denied before path after Same = Writes (folder_grounds denied before path) Same (after.nodes path ≡ None) (after.nodes path ≡ None)
 
 -- `stat` of a forest
-pub record StatAnswer (before : Trees) (collection : ℕ) (path : PathValue) (answer : Result Stat TreeFault) (after : Trees) : Type 0 where
-  pub answers : Stats (is_denied before collection path) (before.tree collection) path answer
+pub record StatAnswer (collection : ℕ) (path : PathValue) (answer : Result Stat TreeFault) (before after : Trees) : Type 0 where
+  pub answers : Stats (before.denies collection path) (before.tree collection) path answer
   pub same : after ≡ before
 
 -- `list`
-pub record ListAnswer (before : Trees) (collection : ℕ) (path : PathValue) (from : Option (List ℕ)) (limit : ℕ) (answer : Result (List Entry) TreeFault) (after : Trees) : Type 0 where
-  pub answers : Lists (is_denied before collection path) (before.tree collection) path from limit answer
+pub record ListAnswer (collection : ℕ) (path : PathValue) (from : Option (List ℕ)) (limit : ℕ)
+    (answer : Result (List Entry) TreeFault) (before after : Trees) : Type 0 where
+  pub answers : Lists (before.denies collection path) (before.tree collection) path from limit answer
   pub same : after ≡ before
 
 -- `read`
-pub record ReadAnswer (before : Trees) (collection : ℕ) (path : PathValue) (at room : ℕ) (answer : Result (List ℕ) TreeFault) (after : Trees) : Type 0 where
-  pub answers : Gives (is_denied before collection path) (before.tree collection) path at room answer
+pub record ReadAnswer (collection : ℕ) (path : PathValue) (at room : ℕ) (answer : Result (List ℕ) TreeFault)
+    (before after : Trees) : Type 0 where
+  pub answers : Gives (before.denies collection path) (before.tree collection) path at room answer
   pub same : after ≡ before
 
 -- `stage_open`
-pub record StageOpenAnswer (before : Trees) (collection key : ℕ) (answer : Result Unit TreeFault) (after : Trees) : Type 0 where
+pub record StageOpenAnswer (collection key : ℕ) (answer : Result Unit TreeFault) (before after : Trees) : Type 0 where
   pub answers : Opens (after.tree collection) key (after ≡ before) answer
   pub others : ChangesOnly collection None (Some key) before after
 
 -- `stage_append`
-pub record StageAppendAnswer (before : Trees) (collection key : ℕ) (bytes : List ℕ) (answer : Result Unit TreeFault) (after : Trees) : Type 0 where
+pub record StageAppendAnswer (collection key : ℕ) (bytes : List ℕ) (answer : Result Unit TreeFault)
+    (before after : Trees) : Type 0 where
   pub answers : Appends (before.tree collection) key before.is_faithful bytes (after.tree collection) (after ≡ before) answer
   pub others : ChangesOnly collection None (Some key) before after
 
 -- `stage_place`
-pub record StagePlaceAnswer (before : Trees) (collection key : ℕ) (path : PathValue) (mtime : ℕ) (answer : Result Unit TreeFault) (after : Trees) : Type 0 where
-  pub answers : Places (is_denied before collection path) (before.tree collection) key path mtime (after.tree collection) (after ≡ before) answer
+pub record StagePlaceAnswer (collection key : ℕ) (path : PathValue) (mtime : ℕ) (answer : Result Unit TreeFault)
+    (before after : Trees) : Type 0 where
+  pub answers : Places (before.denies collection path) (before.tree collection) key path mtime (after.tree collection) (after ≡ before) answer
   pub others : ChangesOnly collection (Some path) (Some key) before after
 
 -- `stage_drop`
-pub record StageDropAnswer (before : Trees) (collection key : ℕ) (answer : Result Unit TreeFault) (after : Trees) : Type 0 where
+pub record StageDropAnswer (collection key : ℕ) (answer : Result Unit TreeFault) (before after : Trees) : Type 0 where
   pub answers : Drops (before.tree collection) key (after.tree collection) (after ≡ before) answer
   pub others : ChangesOnly collection None (Some key) before after
 
 -- `make_dir`
-pub record MakeDirAnswer (before : Trees) (collection : ℕ) (path : PathValue) (answer : Result Unit TreeFault) (after : Trees) : Type 0 where
-  pub answers : Makes (is_denied before collection path) (before.tree collection) path (after.tree collection) (after ≡ before) answer
+pub record MakeDirAnswer (collection : ℕ) (path : PathValue) (answer : Result Unit TreeFault) (before after : Trees) : Type 0 where
+  pub answers : Makes (before.denies collection path) (before.tree collection) path (after.tree collection) (after ≡ before) answer
   pub others : ChangesOnly collection (Some path) None before after
 
 -- `remove_file`
-pub record RemoveFileAnswer (before : Trees) (collection : ℕ) (path : PathValue) (answer : Result Unit TreeFault) (after : Trees) : Type 0 where
-  pub answers : RemovesFile (is_denied before collection path) (before.tree collection) path (after.tree collection) (after ≡ before) answer
+pub record RemoveFileAnswer (collection : ℕ) (path : PathValue) (answer : Result Unit TreeFault) (before after : Trees) : Type 0 where
+  pub answers : RemovesFile (before.denies collection path) (before.tree collection) path (after.tree collection) (after ≡ before) answer
   pub others : ChangesOnly collection (Some path) None before after
 
 -- `remove_dir`
-pub record RemoveDirAnswer (before : Trees) (collection : ℕ) (path : PathValue) (answer : Result Unit TreeFault) (after : Trees) : Type 0 where
-  pub answers : RemovesDir (is_denied before collection path) (before.tree collection) path (after.tree collection) (after ≡ before) answer
+pub record RemoveDirAnswer (collection : ℕ) (path : PathValue) (answer : Result Unit TreeFault) (before after : Trees) : Type 0 where
+  pub answers : RemovesDir (before.denies collection path) (before.tree collection) path (after.tree collection) (after ≡ before) answer
   pub others : ChangesOnly collection (Some path) None before after
+
+-- a call, with what it is about
+pub data Call : Type 0 where
+  StatCall : ℕ → PathValue → Call
+  ListCall : ℕ → PathValue → Option (List ℕ) → ℕ → Call
+  ReadCall : ℕ → PathValue → ℕ → ℕ → Call
+  StageOpenCall : ℕ → ℕ → Call
+  StageAppendCall : ℕ → ℕ → List ℕ → Call
+  StagePlaceCall : ℕ → ℕ → PathValue → ℕ → Call
+  StageDropCall : ℕ → ℕ → Call
+  MakeDirCall : ℕ → PathValue → Call
+  RemoveFileCall : ℕ → PathValue → Call
+  RemoveDirCall : ℕ → PathValue → Call
+
+-- the collection that it is made on
+abbrev pub collection_of : Call → ℕ
+collection_of (StatCall collection path) = collection
+collection_of (ListCall collection path from limit) = collection
+collection_of (ReadCall collection path at room) = collection
+collection_of (StageOpenCall collection key) = collection
+collection_of (StageAppendCall collection key bytes) = collection
+collection_of (StagePlaceCall collection key path mtime) = collection
+collection_of (StageDropCall collection key) = collection
+collection_of (MakeDirCall collection path) = collection
+collection_of (RemoveFileCall collection path) = collection
+collection_of (RemoveDirCall collection path) = collection
+
+-- what an answer that is no refusal gives
+abbrev pub Given : Call → Type 0
+Given (StatCall collection path) = Stat
+Given (ListCall collection path from limit) = List Entry
+Given (ReadCall collection path at room) = List ℕ
+Given (StageOpenCall collection key) = Unit {0}
+Given (StageAppendCall collection key bytes) = Unit {0}
+Given (StagePlaceCall collection key path mtime) = Unit {0}
+Given (StageDropCall collection key) = Unit {0}
+Given (MakeDirCall collection path) = Unit {0}
+Given (RemoveFileCall collection path) = Unit {0}
+Given (RemoveDirCall collection path) = Unit {0}
+
+-- the call is answered so, and leads from the first trees to the second
+abbrev pub IsAnswered : (call : Call) → Result (Given call) TreeFault → Trees → Trees → Type 0
+IsAnswered (StatCall collection path) answer = StatAnswer collection path answer
+IsAnswered (ListCall collection path from limit) answer = ListAnswer collection path from limit answer
+IsAnswered (ReadCall collection path at room) answer = ReadAnswer collection path at room answer
+IsAnswered (StageOpenCall collection key) answer = StageOpenAnswer collection key answer
+IsAnswered (StageAppendCall collection key bytes) answer = StageAppendAnswer collection key bytes answer
+IsAnswered (StagePlaceCall collection key path mtime) answer = StagePlaceAnswer collection key path mtime answer
+IsAnswered (StageDropCall collection key) answer = StageDropAnswer collection key answer
+IsAnswered (MakeDirCall collection path) answer = MakeDirAnswer collection path answer
+IsAnswered (RemoveFileCall collection path) answer = RemoveFileAnswer collection path answer
+IsAnswered (RemoveDirCall collection path) answer = RemoveDirAnswer collection path answer
+
+-- whether the trees alone give the ground of it
+abbrev pub is_refusal : TreeFault → Bool
+is_refusal NotFound = true
+is_refusal Denied = true
+is_refusal WrongKind = true
+is_refusal NotEmpty = true
+is_refusal Fault = false
+is_refusal OutOfMemory = false
+
+-- whether the trees alone decide the answer: the forest didn't fail, and there was memory
+abbrev pub is_decided : {T : Type 0} → Result T TreeFault → Bool
+is_decided (Ok value) = true
+is_decided (Err fault) = is_refusal fault
+
+-- both forests store what they are given, and of the first so many collections both hold the same and deny the same
+pub record AreAlike (count : ℕ) (a b : Trees) : Type 0 where
+  pub tree : (collection : ℕ) → collection < count → b.tree collection ≡ a.tree collection
+  pub denies : (collection : ℕ) (path : PathValue) → collection < count → b.denies collection path ≡ a.denies collection path
+  pub first : IsTrue a.is_faithful
+  pub second : IsTrue b.is_faithful

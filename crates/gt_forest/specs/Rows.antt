@@ -12,7 +12,7 @@ use Rattle.std.specs.Map.{keys_of, lookup}
 use Rattle.std.specs.Option.{option_and_then, option_map_or}
 use Rattle.std.specs.Ordering.{nat_cmp}
 use Rattle.std.specs.Prelude.{Bool, List, None, Option, Some, [], if◌then◌else◌, is_some, map, true, ℕ, ◌-◌, ◌∷◌, ◌≡◌, ◌≢◌}
-use Rattle.gt_paths.specs.Path.{PathValue, child_path, path_cmp}
+use Rattle.gt_paths.specs.Path.{PathValue, path_cmp}
 use Rattle.gt_types.specs.declared.listing.Entry.{Entry}
 use Rattle.gt_forest.specs.Listing.{kind_of}
 use Rattle.gt_forest.specs.Tree.{Tree, is_folder, place_of}

@@ -1,9 +1,8 @@
--- What a forest tells: the trees of its collections with their staging files, the denied paths, and whether its appends
--- store what they are given.
-use Rattle.std.specs.List.{list_any}
+-- What a forest tells: the trees of its collections with their staging files, which paths are denied, and whether its
+-- appends store what they are given.
 use Rattle.std.specs.Option.{option_map_or}
-use Rattle.std.specs.Prelude.{Bool, Contains, IsSome, List, None, Option, Some, [], false, length, slice_index_or, take, true, ℕ, ◌&&◌, ◌==◌, ◌∷◌, ◌≡◌}
-use Rattle.gt_paths.specs.Path.{PathValue, child_path, is_under}
+use Rattle.std.specs.Prelude.{Bool, Contains, IsSome, List, None, Option, Some, [], false, if◌then◌else◌, length, slice_index_or, take, true, ℕ, ◌==◌, ◌∷◌, ◌≡◌}
+use Rattle.gt_paths.specs.Path.{PathValue, child_path}
 use Rattle.gt_forest.specs.declared.node.Node.{Node}
 use Rattle.gt_forest.specs.declared.node.Node.TheVariants.{File, Folder}
 
@@ -12,10 +11,10 @@ pub record Tree : Type 0 where
   pub nodes : PathValue → Option Node
   pub stages : ℕ → Option (List ℕ)
 
--- the tree of each collection, the folders below which all is denied, and whether appends store what they are given
+-- the tree of each collection, whether a path of a collection is denied, and whether appends store what they are given
 pub record Trees : Type 0 where
   pub tree : ℕ → Tree
-  pub denied : List (ℕ × PathValue)
+  pub denies : ℕ → PathValue → Bool
   pub is_faithful : Bool
 
 -- whether a folder is there
@@ -50,10 +49,6 @@ node_at trees collection path = (trees.tree collection).nodes path
 abbrev pub stage_at : Trees → ℕ → ℕ → Option (List ℕ)
 stage_at trees collection key = (trees.tree collection).stages key
 
--- whether the path is under a denied one
-abbrev pub is_denied : Trees → ℕ → PathValue → Bool
-is_denied trees collection path = list_any (λ d. (d.0 == collection) && is_under path d.1) trees.denied
-
 -- whether the folder that the path is in is there; the root needs none
 abbrev pub has_parent : Tree → PathValue → Bool
 has_parent tree path = option_map_or (λ place. is_folder (tree.nodes place.0)) (place_of path) true
@@ -68,4 +63,12 @@ no_tree = record { nodes = λ _. None; stages = λ _. None }
 
 -- what a forest has that tells nothing
 abbrev pub no_trees : Trees
-no_trees = record { tree = λ _. no_tree; denied = []; is_faithful = false }
+no_trees = record { tree = λ _. no_tree; denies = λ _ _. false; is_faithful = false }
+
+-- an empty root of the time 0
+abbrev pub empty_tree : Tree
+empty_tree = record { nodes = λ path. if length path == 0 then Some (Folder 0) else None; stages = λ key. None }
+
+-- each collection has a tree
+abbrev pub AreTrees : Trees → Type 0
+AreTrees trees = (collection : ℕ) → IsTree (trees.tree collection)

@@ -1,6 +1,7 @@
 ghost use Rattle.std.specs.Prelude.{◌≡◌};
-ghost use Rattle.gt_forest.specs.declared.fault.TreeFault.TheVariants.{OutOfMemory};
+ghost use Rattle.gt_forest.specs.declared.fault.TreeFault.TheVariants.{Fault, OutOfMemory};
 
+use gt_causes::Failed;
 use std::alloc::{AllocError, AllocFailed};
 use thiserror::Error;
 
@@ -26,6 +27,14 @@ pub enum TreeFault {
     /// There was no memory for the call, which changed nothing.
     #[error("out of memory")]
     OutOfMemory,
+}
+
+impl From<Failed> for TreeFault {
+    ghost from_gives = { λ _ fault. fault ≡ Fault };
+
+    fn from(_: Failed) -> TreeFault {
+        TreeFault::Fault
+    }
 }
 
 impl From<AllocError> for TreeFault {

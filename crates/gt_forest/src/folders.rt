@@ -16,7 +16,8 @@ pub(crate) type Folders = BTreeMap<Vec<Name>, Contents>;
 
 /// The entries of the folder of this path, if it is there.
 pub(crate) fn contents<'a>(folders: &'a Folders, path: &[Name]) -> Option<&'a Contents>
-    ensures { option_map (λ contents. contents.now.entries) result ≡ contents_of (folder_rows folders.now) path.now }
+    ensures { option_map (λ contents. contents.now.entries) result ≡ contents_of (folder_rows folders.now)
+        path.now }
 {
     folders.get(path)
 }
@@ -33,7 +34,8 @@ pub(crate) fn entry<'a>(folders: &'a Folders, path: &[Name], name: &Name) -> Opt
 
 /// Whether the folder of this path has no entry, if it is there.
 pub(crate) fn is_empty(folders: &Folders, path: &[Name]) -> Option<bool>
-    ensures { result ≡ option_map (λ entries. length entries == 0) (contents_of (folder_rows folders.now) path.now) }
+    ensures { result ≡ option_map (λ entries. length entries == 0)
+        (contents_of (folder_rows folders.now) path.now) }
 {
     match contents(folders, path) {
         Some(contents) => Some(contents.is_empty()),
@@ -49,7 +51,8 @@ pub(crate) fn put_entry(
     node: Node,
 ) -> Result<(), AllocError>
     requires { IsSome (contents_of (folder_rows folders.old) path.now) }
-    ensures ok { OnOk result (PutsEntry path.now name (Some node) (folder_rows folders.old) (folder_rows folders.new)) }
+    ensures ok { OnOk result (PutsEntry path.now name (Some node) (folder_rows folders.old)
+        (folder_rows folders.new)) }
     ensures err { OnErr result (SameFolders (folder_rows folders.old) (folder_rows folders.new)) }
 {
     if let Some(contents) = folders.get_mut(path) {
@@ -86,7 +89,8 @@ pub(crate) fn put_folder(
     folders: &mut Folders,
     path: Vec<Name>,
 ) -> Result<(), AllocError>
-    ensures ok { OnOk result (PutsFolder path.items (Some []) (folder_rows folders.old) (folder_rows folders.new)) }
+    ensures ok { OnOk result (PutsFolder path.items (Some []) (folder_rows folders.old)
+        (folder_rows folders.new)) }
     ensures err { OnErr result (folder_rows folders.new ≡ folder_rows folders.old) }
 {
     folders.insert(path, BTreeMap::new(alloc))?;

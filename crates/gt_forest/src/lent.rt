@@ -1,4 +1,6 @@
-// A lent forest: its meanings are those of the forest that it refers to.
+// A lent forest: what is said of it is said of the forest that it refers to.
+ghost use Rattle.gt_forest.specs.Words.{lent, lent_laws};
+
 use crate::fault::TreeFault;
 use crate::forest::Forest;
 use gt_paths::{Name, Path};
@@ -7,17 +9,9 @@ use gt_values::Moment;
 use std::alloc::Global;
 
 impl<F: Forest> Forest for &mut F {
-    ghost faults_of = { λ f. F.faults_of f.now };
+    ghost words = { lent (λ f. f.now) (λ f. f.ghost_name) F.words };
 
-    ghost calls_of = { λ f. F.calls_of f.now };
-
-    ghost collections_of = { λ f. F.collections_of f.now };
-
-    ghost is_told = { λ f. F.is_told f.now };
-
-    ghost trees_of = { λ f. F.trees_of f.now };
-
-    ghost loan = { λ f. f.ghost_name };
+    ghost laws = { lent_laws (λ f. f.now) (λ f. f.ghost_name) F.words F.laws };
 
     fn faults(&self) -> u64 {
         Forest::faults(&**self)

@@ -8,20 +8,16 @@
 mod fault;
 mod folders;
 mod forest;
+mod laws;
 mod lent;
 mod look;
 mod mem;
 mod node;
 mod place;
 mod stages;
-mod suite;
-mod suite_fault;
-#[cfg(test)]
-mod tests;
 mod tree;
 
 pub use fault::TreeFault;
 pub use forest::Forest;
+pub use laws::{calls_keep_trees, trees_decide_answers};
 pub use mem::MemForest;
-pub use suite::forest_suite;
-pub use suite_fault::SuiteFault;

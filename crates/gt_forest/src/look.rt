@@ -1,7 +1,7 @@
 // Listing a folder and reading a file in memory.
 ghost use Rattle.std.specs.Option.{option_copied};
 ghost use Rattle.std.specs.Range.Bound.{bound_map};
-ghost use Rattle.std.specs.Prelude.{◌≡◌, ◌≤◌, IfOk, OnOk, drop, length, map, take};
+ghost use Rattle.std.specs.Prelude.{◌≡◌, ◌≤◌, ◌<◌, ◌^◌, IfOk, OnOk, drop, length, map, take};
 ghost use Rattle.gt_forest.specs.Rows.{IsIndexed, later_entries, listed, start_of};
 
 use crate::folders::Contents;
@@ -27,7 +27,8 @@ pub(crate) fn list_from(
     after: Option<&Name>,
     limit: u32,
 ) -> Result<Vec<Entry>, AllocError>
-    ensures listed { IfOk result (λ entries. entries.items ≡ take limit (map listed (later_entries (option_copied after.entry) contents.now.entries))) }
+    ensures listed { IfOk result (λ entries. entries.items ≡ take limit
+        (map listed (later_entries (option_copied after.entry) contents.now.entries))) }
     ensures indexed { OnOk result (IsIndexed contents.now.entries) }
 {
     let mut entries = Vec::new(alloc);
@@ -44,8 +45,8 @@ pub(crate) fn list_from(
 
 /// Puts the bytes from a place on into the front of `into`, and says how many.
 pub(crate) fn copy_from(bytes: &[u8], at: u64, into: &mut [u8]) -> usize
-    ensures size { result ≤ length into.old }
-    ensures bytes { take result into.new ≡ take (length into.old) (drop at bytes.now) }
+    ensures room { (result ≤ length into.old) × (result < 2 ^ 64) }
+    ensures ok { take result into.new ≡ take (length into.old) (drop at bytes.now) }
 {
     let at = at.min(bytes.len() as u64) as usize;
     let n = into.len().min(bytes.len() - at);

@@ -1,19 +1,20 @@
 // The forest in memory: it counts its calls, and fails where it is told to.
-ghost use Rattle.std.specs.List.{list_any};
-ghost use Rattle.std.specs.Option.{option_copied, option_map};
-ghost use Rattle.std.specs.Prelude.{◌≡◌, ◌≤◌, ◌<◌, ◌++◌, ◌==◌, ◌&&◌, Contains, IfErr, IfOk, IsErr, IsTrue, OnOk, length, replicate, take, true, ℕ};
+ghost use Rattle.std.proofs.Common.{refl};
+ghost use Rattle.std.specs.Option.{option_copied};
+ghost use Rattle.std.specs.Prelude.{◌≡◌, ◌≤◌, ◌<◌, ◌==◌, ◌^◌, ◌↔◌, Contains, IfErr, IfOk, IsErr, IsTrue, OnOk, length, replicate, take, true, ℕ};
 ghost use Rattle.std.specs.Result.{result_map_both};
-ghost use Rattle.gt_paths.specs.Path.{is_under};
-ghost use Rattle.gt_forest.specs.Answers.{HasFaultCause, is_of_emptying, is_of_opening, is_of_stat, is_of_taking, is_plain};
+ghost use Rattle.gt_causes.specs.Counts.{after_answer, after_fault, counted};
+ghost use Rattle.gt_forest.specs.Answers.{IsBounded, may_answer, may_answer_emptying, may_answer_opening, may_answer_stat, may_answer_taking};
 ghost use Rattle.gt_forest.specs.Calls.{ListAnswer, MakeDirAnswer, ReadAnswer, RemoveDirAnswer, RemoveFileAnswer, StageAppendAnswer, StageDropAnswer, StageOpenAnswer, StagePlaceAnswer, StatAnswer};
 ghost use Rattle.gt_forest.specs.Listing.{IsInOrder};
-ghost use Rattle.gt_forest.specs.MemState.{IsCall, counted, empty_tree, forest_trees, is_corrupt, made};
-ghost use Rattle.gt_forest.specs.Rows.{fresh_rows, stored};
-ghost use Rattle.gt_forest.specs.Tree.{IsTree, stage_at};
+ghost use Rattle.gt_forest.specs.MemState.{IsCall, IsMade, IsStored, SameNodes, forest_trees, is_denied as denies};
+ghost use Rattle.gt_forest.specs.Rows.{fresh_rows};
+ghost use Rattle.gt_forest.specs.Tree.{empty_tree, stage_at};
 
 use crate::fault::TreeFault;
 use crate::forest::Forest;
 use crate::tree::MemTree;
+use gt_causes::{CallCounts, CallList};
 use gt_paths::{Name, Path};
 use gt_types::{Entry, Stat};
 use gt_values::Moment;
@@ -30,10 +31,8 @@ use std::marker::Model;
 pub struct MemForest {
     trees: Vec<MemTree>,
     denied: Vec<(u32, Path)>,
-    fails: Vec<u64>,
-    corrupt: Vec<u64>,
-    calls: u64,
-    faults: u64,
+    corrupt: CallList,
+    counts: CallCounts,
     appends: u64,
 }
 
@@ -43,7 +42,7 @@ impl Model for MemForest {
 
     ghost Value = { MemState };
 
-    ghost view = { λ m. record { trees = m.trees.items; denied = m.denied.items; fails = m.fails.items; corrupt = m.corrupt.items; calls = m.calls; faults = m.faults; appends = m.appends } };
+    ghost view = { λ m. record { trees = m.trees.items; denied = m.denied.items; corrupt = m.corrupt; counts = m.counts; appends = m.appends } };
 
     ghost invariant = { λ m. length m.trees.items < 2 ^ 32 };
 }
@@ -58,16 +57,16 @@ impl MemForest {
         fails: Vec<u64>,
         corrupt: Vec<u64>,
     ) -> Result<MemForest, AllocError>
-        ensures made { IfOk result (λ forest. forest ≡ made count denied.items fails.items corrupt.items) }
-        ensures empty { IfOk result (λ forest. (collection : ℕ) → collection < count → (forest_trees forest).tree collection ≡ empty_tree) }
+        ensures ok { IfOk result (λ forest. IsMade count denied.items fails.items corrupt.items forest) }
+        ensures faithful { IfOk result (λ forest. (forest_trees forest).is_faithful ≡ (length corrupt.items == 0)) }
+        ensures empty { IfOk result (λ forest. (collection : ℕ) → collection < count
+            → (forest_trees forest).tree collection ≡ empty_tree) }
     {
         Ok(MemForest {
             trees: fresh_trees(alloc, count)?,
             denied,
-            fails,
-            corrupt,
-            calls: 0,
-            faults: 0,
+            corrupt: CallList::new(corrupt),
+            counts: CallCounts::new(fails),
             appends: 0,
         })
     }
@@ -84,26 +83,24 @@ fn fresh_trees(alloc: Global, count: u32) -> Result<Vec<MemTree>, AllocError>
     Ok(trees)
 }
 
-// Counts a call, which fails if it is listed.
-fn count_call(calls: &mut u64, fails: &[u64], faults: &mut u64) -> Result<(), TreeFault>
-    ensures calls { calls.new ≡ counted calls.old }
-    ensures ok { OnOk result (faults.new ≡ faults.old) }
-    ensures unlisted { OnOk result (¬ Contains fails.now (counted calls.old)) }
+// Counts a call, which fails exactly where it is listed.
+fn count_call(counts: &mut CallCounts) -> Result<(), TreeFault>
+    ensures ok { OnOk result (counts.new ≡ after_answer counts.old) }
+    ensures err { IsErr result → counts.new ≡ after_fault counts.old }
     ensures fault { IfErr result (λ fault. fault ≡ TreeFault.Fault) }
-    ensures err { IsErr result → faults.new ≡ counted faults.old }
-    ensures listed { IsErr result → Contains fails.now (counted calls.old) }
+    ensures cause { IsErr result ↔ Contains counts.old.fails (counted counts.old.calls) }
+    ensures same { (counts.old.faults ≤ counts.new.faults) × (counts.old.calls ≤ counts.new.calls) }
 {
-    *calls = calls.saturating_add(1);
-    if fails.contains(&*calls) {
-        *faults = faults.saturating_add(1);
-        return Err(TreeFault::Fault);
-    }
+    // For the proof: both are numbers of 64 bits.
+    let _faults = counts.faults();
+    let _calls = counts.calls();
+    counts.count_call()?;
     Ok(())
 }
 
 // Whether the path is under one of these of its collection.
 fn is_denied(denied: &[(u32, Path)], collection: u32, path: &Path) -> bool
-    ensures { result ≡ list_any (λ d. (d.0 == collection) && is_under path.now d.1) denied.now }
+    ensures { result ≡ denies denied.now collection path.now }
 {
     denied
         .iter()
@@ -111,22 +108,24 @@ fn is_denied(denied: &[(u32, Path)], collection: u32, path: &Path) -> bool
 }
 
 impl Forest for MemForest {
-    ghost faults_of = { λ m. m.faults };
+    ghost words = { record {
+      faults = λ m. m.counts.faults;
+      calls = λ m. m.counts.calls;
+      collections = λ m. length m.trees;
+      told = λ m. true;
+      trees = forest_trees;
+      may_leave = λ m. SameNodes (forest_trees m);
+      loan = λ m. 0;
+    } };
 
-    ghost calls_of = { λ m. m.calls };
-
-    ghost collections_of = { λ m. length m.trees };
-
-    ghost is_told = { λ _. true };
-
-    ghost trees_of = { forest_trees };
+    ghost laws = { record { stands_now = λ m told collection path. refl } };
 
     fn faults(&self) -> u64 {
-        self.faults
+        self.counts.faults()
     }
 
     fn calls(&self) -> u64 {
-        self.calls
+        self.counts.calls()
     }
 
     fn collections(&self) -> u32 {
@@ -135,14 +134,13 @@ impl Forest for MemForest {
 
     fn stat(&mut self, collection: u32, path: &Path) -> Result<Stat, TreeFault>
         requires { collection < length self.old.trees }
-        ensures cause { HasFaultCause self.old.faults self.new.faults result }
-        ensures exact { IsCall self.old self.new self.old.appends result }
-        ensures refusals { IfErr result (λ fault. IsTrue (is_of_stat fault)) }
-        ensures tree { IsTree ((forest_trees self.old).tree collection) }
-        ensures trees { StatAnswer (forest_trees self.old) collection path.now result (forest_trees self.new) }
+        ensures whole { IsCall self.old self.new self.old.appends result }
+        ensures fault { IfErr result (λ fault. IsTrue (may_answer_stat fault)) }
+        ensures room { IfOk result (λ stat. IsBounded stat) }
+        ensures told { StatAnswer collection path.now result
+            (forest_trees self.old) (forest_trees self.new) }
     {
-        self.trees[collection as usize].whole();
-        count_call(&mut self.calls, &self.fails, &mut self.faults)?;
+        count_call(&mut self.counts)?;
         let denied = is_denied(&self.denied, collection, path);
         self.trees[collection as usize].stat(denied, path)
     }
@@ -156,13 +154,14 @@ impl Forest for MemForest {
         limit: u32,
     ) -> Result<Vec<Entry>, TreeFault>
         requires { collection < length self.old.trees }
-        ensures cause { HasFaultCause self.old.faults self.new.faults result }
-        ensures exact { IsCall self.old self.new self.old.appends result }
-        ensures refusals { IfErr result (λ fault. IsTrue (is_of_taking fault)) }
-        ensures order { IfOk result (λ entries. IsInOrder (option_copied after.entry) limit entries.items) }
-        ensures trees { ListAnswer (forest_trees self.old) collection path.now (option_copied after.entry) limit (result_map_both (λ entries. entries.items) (λ fault. fault) result) (forest_trees self.new) }
+        ensures whole { IsCall self.old self.new self.old.appends result }
+        ensures fault { IfErr result (λ fault. IsTrue (may_answer_taking fault)) }
+        ensures ok { IfOk result (λ entries. IsInOrder (option_copied after.entry) limit entries.items) }
+        ensures told { ListAnswer collection path.now (option_copied after.entry) limit
+            (result_map_both (λ entries. entries.items) (λ fault. fault) result)
+            (forest_trees self.old) (forest_trees self.new) }
     {
-        count_call(&mut self.calls, &self.fails, &mut self.faults)?;
+        count_call(&mut self.counts)?;
         let denied = is_denied(&self.denied, collection, path);
         self.trees[collection as usize].list(alloc, denied, path, after, limit)
     }
@@ -175,25 +174,26 @@ impl Forest for MemForest {
         into: &mut [u8],
     ) -> Result<usize, TreeFault>
         requires { collection < length self.old.trees }
-        ensures cause { HasFaultCause self.old.faults self.new.faults result }
-        ensures exact { IsCall self.old self.new self.old.appends result }
-        ensures refusals { IfErr result (λ fault. IsTrue (is_plain fault)) }
-        ensures size { IfOk result (λ n. n ≤ length into.old) }
-        ensures trees { ReadAnswer (forest_trees self.old) collection path.now at (length into.old) (result_map_both (λ n. take n into.new) (λ fault. fault) result) (forest_trees self.new) }
+        ensures whole { IsCall self.old self.new self.old.appends result }
+        ensures fault { IfErr result (λ fault. IsTrue (may_answer fault)) }
+        ensures room { IfOk result (λ n. (n ≤ length into.old) × (n < 2 ^ 64)) }
+        ensures told { ReadAnswer collection path.now at (length into.old)
+            (result_map_both (λ n. take n into.new) (λ fault. fault) result)
+            (forest_trees self.old) (forest_trees self.new) }
     {
-        count_call(&mut self.calls, &self.fails, &mut self.faults)?;
+        count_call(&mut self.counts)?;
         let denied = is_denied(&self.denied, collection, path);
         self.trees[collection as usize].read(denied, path, at, into)
     }
 
     fn stage_open(&mut self, alloc: Global, collection: u32, key: u64) -> Result<(), TreeFault>
         requires { collection < length self.old.trees }
-        ensures cause { HasFaultCause self.old.faults self.new.faults result }
-        ensures exact { IsCall self.old self.new self.old.appends result }
-        ensures refusals { IfErr result (λ fault. IsTrue (is_of_opening fault)) }
-        ensures trees { StageOpenAnswer (forest_trees self.old) collection key result (forest_trees self.new) }
+        ensures whole { IsCall self.old self.new self.old.appends result }
+        ensures fault { IfErr result (λ fault. IsTrue (may_answer_opening fault)) }
+        ensures told { StageOpenAnswer collection key result
+            (forest_trees self.old) (forest_trees self.new) }
     {
-        count_call(&mut self.calls, &self.fails, &mut self.faults)?;
+        count_call(&mut self.counts)?;
         self.trees[collection as usize].open(alloc, key)
     }
 
@@ -205,15 +205,17 @@ impl Forest for MemForest {
         bytes: &[u8],
     ) -> Result<(), TreeFault>
         requires { collection < length self.old.trees }
-        ensures cause { HasFaultCause self.old.faults self.new.faults result }
-        ensures exact { IsCall self.old self.new (counted self.old.appends) result }
-        ensures refusals { IfErr result (λ fault. IsTrue (is_of_taking fault)) }
-        ensures stored { OnOk result (stage_at (forest_trees self.new) collection key ≡ option_map (λ old. old ++ stored (is_corrupt self.old) bytes.now) (stage_at (forest_trees self.old) collection key)) }
-        ensures trees { StageAppendAnswer (forest_trees self.old) collection key bytes.now result (forest_trees self.new) }
+        ensures whole { IsCall self.old self.new (counted self.old.appends) result }
+        ensures fault { IfErr result (λ fault. IsTrue (may_answer_taking fault)) }
+        ensures stored { OnOk result (IsStored self.old bytes.now
+            (stage_at (forest_trees self.old) collection key)
+            (stage_at (forest_trees self.new) collection key)) }
+        ensures told { StageAppendAnswer collection key bytes.now result
+            (forest_trees self.old) (forest_trees self.new) }
     {
         self.appends = self.appends.saturating_add(1);
-        count_call(&mut self.calls, &self.fails, &mut self.faults)?;
-        let is_corrupt = self.corrupt.contains(&self.appends);
+        count_call(&mut self.counts)?;
+        let is_corrupt = self.corrupt.has(self.appends);
         self.trees[collection as usize].append(key, bytes, is_corrupt)
     }
 
@@ -226,59 +228,59 @@ impl Forest for MemForest {
         mtime: Moment,
     ) -> Result<(), TreeFault>
         requires { collection < length self.old.trees }
-        ensures cause { HasFaultCause self.old.faults self.new.faults result }
-        ensures exact { IsCall self.old self.new self.old.appends result }
-        ensures refusals { IfErr result (λ fault. IsTrue (is_of_taking fault)) }
-        ensures trees { StagePlaceAnswer (forest_trees self.old) collection key path.now mtime result (forest_trees self.new) }
+        ensures whole { IsCall self.old self.new self.old.appends result }
+        ensures fault { IfErr result (λ fault. IsTrue (may_answer_taking fault)) }
+        ensures told { StagePlaceAnswer collection key path.now mtime result
+            (forest_trees self.old) (forest_trees self.new) }
     {
-        count_call(&mut self.calls, &self.fails, &mut self.faults)?;
+        count_call(&mut self.counts)?;
         let denied = is_denied(&self.denied, collection, path);
         self.trees[collection as usize].place(alloc, denied, key, path, mtime)
     }
 
     fn stage_drop(&mut self, collection: u32, key: u64) -> Result<(), TreeFault>
         requires { collection < length self.old.trees }
-        ensures cause { HasFaultCause self.old.faults self.new.faults result }
-        ensures exact { IsCall self.old self.new self.old.appends result }
-        ensures refusals { IfErr result (λ fault. IsTrue (is_plain fault)) }
-        ensures trees { StageDropAnswer (forest_trees self.old) collection key result (forest_trees self.new) }
+        ensures whole { IsCall self.old self.new self.old.appends result }
+        ensures fault { IfErr result (λ fault. IsTrue (may_answer fault)) }
+        ensures told { StageDropAnswer collection key result
+            (forest_trees self.old) (forest_trees self.new) }
     {
-        count_call(&mut self.calls, &self.fails, &mut self.faults)?;
+        count_call(&mut self.counts)?;
         self.trees[collection as usize].drop_stage(key)
     }
 
     fn make_dir(&mut self, alloc: Global, collection: u32, path: &Path) -> Result<(), TreeFault>
         requires { collection < length self.old.trees }
-        ensures cause { HasFaultCause self.old.faults self.new.faults result }
-        ensures exact { IsCall self.old self.new self.old.appends result }
-        ensures refusals { IfErr result (λ fault. IsTrue (is_of_taking fault)) }
-        ensures trees { MakeDirAnswer (forest_trees self.old) collection path.now result (forest_trees self.new) }
+        ensures whole { IsCall self.old self.new self.old.appends result }
+        ensures fault { IfErr result (λ fault. IsTrue (may_answer_taking fault)) }
+        ensures told { MakeDirAnswer collection path.now result
+            (forest_trees self.old) (forest_trees self.new) }
     {
-        count_call(&mut self.calls, &self.fails, &mut self.faults)?;
+        count_call(&mut self.counts)?;
         let denied = is_denied(&self.denied, collection, path);
         self.trees[collection as usize].make(alloc, denied, path)
     }
 
     fn remove_file(&mut self, collection: u32, path: &Path) -> Result<(), TreeFault>
         requires { collection < length self.old.trees }
-        ensures cause { HasFaultCause self.old.faults self.new.faults result }
-        ensures exact { IsCall self.old self.new self.old.appends result }
-        ensures refusals { IfErr result (λ fault. IsTrue (is_plain fault)) }
-        ensures trees { RemoveFileAnswer (forest_trees self.old) collection path.now result (forest_trees self.new) }
+        ensures whole { IsCall self.old self.new self.old.appends result }
+        ensures fault { IfErr result (λ fault. IsTrue (may_answer fault)) }
+        ensures told { RemoveFileAnswer collection path.now result
+            (forest_trees self.old) (forest_trees self.new) }
     {
-        count_call(&mut self.calls, &self.fails, &mut self.faults)?;
+        count_call(&mut self.counts)?;
         let denied = is_denied(&self.denied, collection, path);
         self.trees[collection as usize].remove_file(denied, path)
     }
 
     fn remove_dir(&mut self, collection: u32, path: &Path) -> Result<(), TreeFault>
         requires { collection < length self.old.trees }
-        ensures cause { HasFaultCause self.old.faults self.new.faults result }
-        ensures exact { IsCall self.old self.new self.old.appends result }
-        ensures refusals { IfErr result (λ fault. IsTrue (is_of_emptying fault)) }
-        ensures trees { RemoveDirAnswer (forest_trees self.old) collection path.now result (forest_trees self.new) }
+        ensures whole { IsCall self.old self.new self.old.appends result }
+        ensures fault { IfErr result (λ fault. IsTrue (may_answer_emptying fault)) }
+        ensures told { RemoveDirAnswer collection path.now result
+            (forest_trees self.old) (forest_trees self.new) }
     {
-        count_call(&mut self.calls, &self.fails, &mut self.faults)?;
+        count_call(&mut self.counts)?;
         let denied = is_denied(&self.denied, collection, path);
         self.trees[collection as usize].remove_dir(denied, path)
     }

@@ -1,4 +1,5 @@
 ghost use Rattle.std.specs.Prelude.{◌≡◌};
+ghost use Rattle.gt_forest.specs.Answers.{IsBounded};
 ghost use Rattle.gt_forest.specs.Calls as call;
 ghost use Rattle.gt_forest.specs.Listing as listing;
 
@@ -25,19 +26,22 @@ impl Node {
 
     /// Its kind, its size and its time.
     pub(crate) fn stat(&self) -> Stat
-        ensures { result ≡ call.stat_of self.now }
+        ensures value { result ≡ call.stat_of self.now }
+        ensures room { IsBounded result }
     {
         match self {
-            Node::File { bytes, mtime } => Stat {
-                kind: Kind::File,
-                size: bytes.len() as u64,
-                mtime: *mtime,
-            },
-            Node::Folder { mtime } => Stat {
-                kind: Kind::Folder,
-                size: 0,
-                mtime: *mtime,
-            },
+            Node::File { bytes, mtime } => stat_at(Kind::File, bytes.len() as u64, *mtime),
+            Node::Folder { mtime } => stat_at(Kind::Folder, 0, *mtime),
         }
     }
+}
+
+// Of this kind, size and time.
+fn stat_at(kind: Kind, size: u64, mtime: Moment) -> Stat
+    ensures value { result ≡ record { kind = kind; size = size; mtime = mtime } }
+    ensures room { IsBounded result }
+{
+    // For the proof: a moment is a number of 64 bits.
+    let _seconds = mtime.seconds();
+    Stat { kind, size, mtime }
 }

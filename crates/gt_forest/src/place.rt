@@ -24,7 +24,9 @@ pub(crate) fn place_stage(
 ) -> Result<(), AllocError>
     requires there { IsSome (contents_of (folder_rows folders.old) path.now) }
     requires staged { IsSome (staged_at (stage_rows stages.old) key) }
-    ensures file { OnOk result (PutsEntry path.now name.now (option_map (λ bytes. File bytes mtime) (staged_at (stage_rows stages.old) key)) (folder_rows folders.old) (folder_rows folders.new)) }
+    ensures file { OnOk result (PutsEntry path.now name.now
+        (option_map (λ bytes. File bytes mtime) (staged_at (stage_rows stages.old) key))
+        (folder_rows folders.old) (folder_rows folders.new)) }
     ensures gone { OnOk result (PutsStage key None (stage_rows stages.old) (stage_rows stages.new)) }
     ensures err { OnErr result (SameFolders (folder_rows folders.old) (folder_rows folders.new)) }
     ensures kept { OnErr result (stage_rows stages.new ≡ stage_rows stages.old) }
@@ -67,7 +69,8 @@ pub(crate) fn make_folder(
     requires is { names.now ≡ child_path path.now name.now }
     requires there { IsSome (contents_of (folder_rows folders.old) path.now) }
     requires absent { contents_of (folder_rows folders.old) names.now ≡ None }
-    ensures ok { OnOk result (ChangesFolder names.now (Some []) path.now name.now (Some (Folder 0)) (folder_rows folders.old) (folder_rows folders.new)) }
+    ensures ok { OnOk result (ChangesFolder names.now (Some []) path.now name.now (Some (Folder 0))
+        (folder_rows folders.old) (folder_rows folders.new)) }
     ensures err { OnErr result (SameFolders (folder_rows folders.old) (folder_rows folders.new)) }
 {
     let name = name.copy(alloc)?;
@@ -87,7 +90,8 @@ pub(crate) fn make_folder(
 pub(crate) fn remove_folder(folders: &mut Folders, names: &[Name], path: &[Name], name: &Name)
     requires is { names.now ≡ child_path path.now name.now }
     requires there { IsSome (contents_of (folder_rows folders.old) path.now) }
-    ensures { ChangesFolder names.now None path.now name.now None (folder_rows folders.old) (folder_rows folders.new) }
+    ensures { ChangesFolder names.now None path.now name.now None (folder_rows folders.old)
+        (folder_rows folders.new) }
 {
     take_folder(folders, names);
     take_entry(folders, path, name);

@@ -46,7 +46,9 @@ pub(crate) fn append_stage(
     is_corrupt: bool,
 ) -> Result<(), AllocError>
     requires { IsSome (staged_at (stage_rows stages.old) key) }
-    ensures ok { OnOk result (IfSome (staged_at (stage_rows stages.old) key) (λ old. PutsStage key (Some (old ++ stored is_corrupt bytes.now)) (stage_rows stages.old) (stage_rows stages.new))) }
+    ensures ok { OnOk result (IfSome (staged_at (stage_rows stages.old) key)
+        (λ old. PutsStage key (Some (old ++ stored is_corrupt bytes.now))
+        (stage_rows stages.old) (stage_rows stages.new))) }
     ensures err { OnErr result (SameStages (stage_rows stages.old) (stage_rows stages.new)) }
 {
     if let Some(stage) = stages.get_mut(&key) {

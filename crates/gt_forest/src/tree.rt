@@ -1,11 +1,11 @@
 // One tree in memory: each call on it, where it is known whether the path is denied.
 ghost use Rattle.std.specs.Option.{option_copied, option_map};
-ghost use Rattle.std.specs.Prelude.{◌≡◌, ◌≤◌, ◌++◌, IfErr, IfOk, IsTrue, None, OnOk, Some, is_none, is_some, length, not, take, true};
+ghost use Rattle.std.specs.Prelude.{◌≡◌, ◌≤◌, ◌<◌, ◌^◌, ◌++◌, ◌&&◌, IfErr, IfOk, IsTrue, None, OnOk, Some, is_none, is_some, length, not, take, true};
 ghost use Rattle.std.specs.Result.{result_map_both};
-ghost use Rattle.gt_forest.specs.Answers.{is_failure, is_of_emptying, is_of_opening, is_of_stat, is_of_taking, is_plain};
+ghost use Rattle.gt_forest.specs.Answers.{IsBounded, is_failure, may_answer, may_answer_emptying, may_answer_opening, may_answer_stat, may_answer_taking};
 ghost use Rattle.gt_forest.specs.Calls.{Appends, Drops, Gives, Lists, Makes, Opens, Places, RemovesDir, RemovesFile, Stats};
 ghost use Rattle.gt_forest.specs.Listing.{IsInOrder};
-ghost use Rattle.gt_forest.specs.Rows.{IsWhole, KeepsOthers, fresh_rows, stored, tree_of};
+ghost use Rattle.gt_forest.specs.Rows.{KeepsOthers, fresh_rows, stored, tree_of};
 ghost use Rattle.gt_forest.specs.Tree as spec;
 
 use crate::fault::TreeFault;
@@ -74,13 +74,6 @@ impl MemTree {
         }
     }
 
-    /// What every tree keeps. It costs nothing.
-    pub(crate) fn whole(&self)
-        ensures { IsWhole self.now.root self.now.folders }
-    {
-        let _ = &self.root;
-    }
-
     /// Why a path is no folder that is there.
     fn not_folder(&self, path: &Path) -> TreeFault
         ensures absent { is_none ((tree_of self.now).nodes path.now) ≡ true → result ≡ TreeFault.NotFound }
@@ -95,8 +88,8 @@ impl MemTree {
     /// What stands at the path: its kind, its size and its time.
     pub(crate) fn stat(&self, denied: bool, path: &Path) -> Result<Stat, TreeFault>
         ensures answer { Stats denied (tree_of self.now) path.now result }
-        ensures refusals { IfErr result (λ fault. IsTrue (is_of_stat fault)) }
-        ensures no_failure { IfErr result (λ fault. IsTrue (not (is_failure fault))) }
+        ensures room { IfOk result (λ stat. IsBounded stat) }
+        ensures fault { IfErr result (λ fault. IsTrue (may_answer_stat fault && not (is_failure fault))) }
     {
         if denied {
             return Err(TreeFault::Denied);
@@ -116,10 +109,10 @@ impl MemTree {
         after: Option<&Name>,
         limit: u32,
     ) -> Result<Vec<Entry>, TreeFault>
-        ensures answer { Lists denied (tree_of self.now) path.now (option_copied after.entry) limit (result_map_both (λ entries. entries.items) (λ fault. fault) result) }
-        ensures order { IfOk result (λ entries. IsInOrder (option_copied after.entry) limit entries.items) }
-        ensures refusals { IfErr result (λ fault. IsTrue (is_of_taking fault)) }
-        ensures no_failure { IfErr result (λ fault. IsTrue (not (is_failure fault))) }
+        ensures answer { Lists denied (tree_of self.now) path.now (option_copied after.entry) limit
+            (result_map_both (λ entries. entries.items) (λ fault. fault) result) }
+        ensures ok { IfOk result (λ entries. IsInOrder (option_copied after.entry) limit entries.items) }
+        ensures fault { IfErr result (λ fault. IsTrue (may_answer_taking fault && not (is_failure fault))) }
     {
         if denied {
             return Err(TreeFault::Denied);
@@ -139,10 +132,10 @@ impl MemTree {
         at: u64,
         into: &mut [u8],
     ) -> Result<usize, TreeFault>
-        ensures answer { Gives denied (tree_of self.now) path.now at (length into.old) (result_map_both (λ n. take n into.new) (λ fault. fault) result) }
-        ensures size { IfOk result (λ n. n ≤ length into.old) }
-        ensures refusals { IfErr result (λ fault. IsTrue (is_plain fault)) }
-        ensures no_failure { IfErr result (λ fault. IsTrue (not (is_failure fault))) }
+        ensures answer { Gives denied (tree_of self.now) path.now at (length into.old)
+            (result_map_both (λ n. take n into.new) (λ fault. fault) result) }
+        ensures room { IfOk result (λ n. (n ≤ length into.old) × (n < 2 ^ 64)) }
+        ensures fault { IfErr result (λ fault. IsTrue (may_answer fault && not (is_failure fault))) }
     {
         if denied {
             return Err(TreeFault::Denied);
@@ -158,8 +151,7 @@ impl MemTree {
     pub(crate) fn open(&mut self, alloc: Global, key: u64) -> Result<(), TreeFault>
         ensures answer { Opens (tree_of self.new) key (tree_of self.new ≡ tree_of self.old) result }
         ensures others { KeepsOthers None (Some key) (tree_of self.old) (tree_of self.new) }
-        ensures refusals { IfErr result (λ fault. IsTrue (is_of_opening fault)) }
-        ensures no_failure { IfErr result (λ fault. IsTrue (not (is_failure fault))) }
+        ensures fault { IfErr result (λ fault. IsTrue (may_answer_opening fault && not (is_failure fault))) }
     {
         match open_stage(alloc, &mut self.stages, key) {
             Ok(()) => Ok(()),
@@ -174,11 +166,12 @@ impl MemTree {
         bytes: &[u8],
         is_corrupt: bool,
     ) -> Result<(), TreeFault>
-        ensures answer { Appends (tree_of self.old) key (not is_corrupt) bytes.now (tree_of self.new) (tree_of self.new ≡ tree_of self.old) result }
-        ensures stored { OnOk result ((tree_of self.new).stages key ≡ option_map (λ old. old ++ stored is_corrupt bytes.now) ((tree_of self.old).stages key)) }
+        ensures answer { Appends (tree_of self.old) key (not is_corrupt) bytes.now (tree_of self.new)
+            (tree_of self.new ≡ tree_of self.old) result }
+        ensures stored { OnOk result ((tree_of self.new).stages key ≡ option_map
+            (λ old. old ++ stored is_corrupt bytes.now) ((tree_of self.old).stages key)) }
         ensures others { KeepsOthers None (Some key) (tree_of self.old) (tree_of self.new) }
-        ensures refusals { IfErr result (λ fault. IsTrue (is_of_taking fault)) }
-        ensures no_failure { IfErr result (λ fault. IsTrue (not (is_failure fault))) }
+        ensures fault { IfErr result (λ fault. IsTrue (may_answer_taking fault && not (is_failure fault))) }
     {
         if !has_stage(&self.stages, key) {
             return Err(TreeFault::NotFound);
@@ -198,10 +191,10 @@ impl MemTree {
         path: &Path,
         mtime: Moment,
     ) -> Result<(), TreeFault>
-        ensures answer { Places denied (tree_of self.old) key path.now mtime (tree_of self.new) (tree_of self.new ≡ tree_of self.old) result }
+        ensures answer { Places denied (tree_of self.old) key path.now mtime (tree_of self.new)
+            (tree_of self.new ≡ tree_of self.old) result }
         ensures others { KeepsOthers (Some path.now) (Some key) (tree_of self.old) (tree_of self.new) }
-        ensures refusals { IfErr result (λ fault. IsTrue (is_of_taking fault)) }
-        ensures no_failure { IfErr result (λ fault. IsTrue (not (is_failure fault))) }
+        ensures fault { IfErr result (λ fault. IsTrue (may_answer_taking fault && not (is_failure fault))) }
     {
         if denied {
             return Err(TreeFault::Denied);
@@ -229,10 +222,10 @@ impl MemTree {
 
     /// Takes a staging file away.
     pub(crate) fn drop_stage(&mut self, key: u64) -> Result<(), TreeFault>
-        ensures answer { Drops (tree_of self.old) key (tree_of self.new) (tree_of self.new ≡ tree_of self.old) result }
+        ensures answer { Drops (tree_of self.old) key (tree_of self.new) (tree_of self.new ≡ tree_of self.old)
+            result }
         ensures others { KeepsOthers None (Some key) (tree_of self.old) (tree_of self.new) }
-        ensures refusals { IfErr result (λ fault. IsTrue (is_plain fault)) }
-        ensures no_failure { IfErr result (λ fault. IsTrue (not (is_failure fault))) }
+        ensures fault { IfErr result (λ fault. IsTrue (may_answer fault && not (is_failure fault))) }
     {
         match take_stage(&mut self.stages, key) {
             Some(_) => Ok(()),
@@ -242,10 +235,10 @@ impl MemTree {
 
     /// Makes a folder.
     pub(crate) fn make(&mut self, alloc: Global, denied: bool, path: &Path) -> Result<(), TreeFault>
-        ensures answer { Makes denied (tree_of self.old) path.now (tree_of self.new) (tree_of self.new ≡ tree_of self.old) result }
+        ensures answer { Makes denied (tree_of self.old) path.now (tree_of self.new)
+            (tree_of self.new ≡ tree_of self.old) result }
         ensures others { KeepsOthers (Some path.now) None (tree_of self.old) (tree_of self.new) }
-        ensures refusals { IfErr result (λ fault. IsTrue (is_of_taking fault)) }
-        ensures no_failure { IfErr result (λ fault. IsTrue (not (is_failure fault))) }
+        ensures fault { IfErr result (λ fault. IsTrue (may_answer_taking fault && not (is_failure fault))) }
     {
         if denied {
             return Err(TreeFault::Denied);
@@ -265,10 +258,10 @@ impl MemTree {
 
     /// Removes a file.
     pub(crate) fn remove_file(&mut self, denied: bool, path: &Path) -> Result<(), TreeFault>
-        ensures answer { RemovesFile denied (tree_of self.old) path.now (tree_of self.new) (tree_of self.new ≡ tree_of self.old) result }
+        ensures answer { RemovesFile denied (tree_of self.old) path.now (tree_of self.new)
+            (tree_of self.new ≡ tree_of self.old) result }
         ensures others { KeepsOthers (Some path.now) None (tree_of self.old) (tree_of self.new) }
-        ensures refusals { IfErr result (λ fault. IsTrue (is_plain fault)) }
-        ensures no_failure { IfErr result (λ fault. IsTrue (not (is_failure fault))) }
+        ensures fault { IfErr result (λ fault. IsTrue (may_answer fault && not (is_failure fault))) }
     {
         if denied {
             return Err(TreeFault::Denied);
@@ -286,10 +279,10 @@ impl MemTree {
 
     /// Removes an empty folder.
     pub(crate) fn remove_dir(&mut self, denied: bool, path: &Path) -> Result<(), TreeFault>
-        ensures answer { RemovesDir denied (tree_of self.old) path.now (tree_of self.new) (tree_of self.new ≡ tree_of self.old) result }
+        ensures answer { RemovesDir denied (tree_of self.old) path.now (tree_of self.new)
+            (tree_of self.new ≡ tree_of self.old) result }
         ensures others { KeepsOthers (Some path.now) None (tree_of self.old) (tree_of self.new) }
-        ensures refusals { IfErr result (λ fault. IsTrue (is_of_emptying fault)) }
-        ensures no_failure { IfErr result (λ fault. IsTrue (not (is_failure fault))) }
+        ensures fault { IfErr result (λ fault. IsTrue (may_answer_emptying fault && not (is_failure fault))) }
     {
         let Some((name, folder)) = path.as_slice().split_last() else {
             return Err(TreeFault::Denied);

@@ -2,19 +2,18 @@ use Rattle.gt_forest.proofs.ForestLemmas.{denied_is, told_by, tree_at}
 use Rattle.gt_forest.proofs.mem.MemForestForest.read.Goals as goal
 use Rattle.gt_forest.specs.Calls.{ReadAnswer, Gives}
 use Rattle.gt_forest.specs.MemState.{forest_trees}
-use Rattle.gt_forest.specs.Tree.{IsTree, is_denied}
-use Rattle.std.proofs.Common.{length, option_copied, refl, rules, subst, sym, take, ◌<◌}
+use Rattle.std.proofs.Common.{length, refl, subst, sym, take, ◌<◌}
 use Rattle.std.specs.Result.{result_map_both}
 
-pub returns-clause-trees : goal.returns-clause-trees
-returns-clause-trees c =
+pub returns-clause-told : goal.returns-clause-told
+returns-clause-told c =
     let m = c.self.inside in
     let inside = subst (λ v. c.args.collection < length v.trees) (sym c.self.view_is) c.requires in
-    let before = told_by m.trees.items m.denied.items m.corrupt.items in
+    let before = told_by m.trees.items m.denied.items m.corrupt in
     let answer = result_map_both (λ n. take n c.read.new.into) (λ fault. fault) c.read.result in
     let at = tree_at m.trees.items c.args.collection c.index.result.now inside c.index.ensures in
-    subst (λ v. ReadAnswer (forest_trees v) c.args.collection c.args.path.now c.args.at (length c.args.into.now) answer before) c.self.view_is
+    subst (λ v. ReadAnswer c.args.collection c.args.path.now c.args.at (length c.args.into.now) answer (forest_trees v) before) c.self.view_is
     (record {
-      answers = subst (λ b. Gives b (before.tree c.args.collection) c.args.path.now c.args.at (length c.args.into.now) answer) (denied_is c.args.collection c.args.path.now c.deref-2.result.now m.denied.items c.is_denied-denied.result c.is_denied-denied.ensures c.deref-2.ensures.value) (subst (λ t. Gives c.is_denied-denied.result t c.args.path.now c.args.at (length c.args.into.now) answer) (sym at) c.read.ensures.answer);
+      answers = subst (λ b. Gives b (before.tree c.args.collection) c.args.path.now c.args.at (length c.args.into.now) answer) (denied_is c.args.collection c.args.path.now c.deref.result.now m.denied.items c.is_denied-denied.result c.is_denied-denied.ensures c.deref.ensures.value) (subst (λ t. Gives c.is_denied-denied.result t c.args.path.now c.args.at (length c.args.into.now) answer) (sym at) c.read.ensures.answer);
       same = refl;
     })

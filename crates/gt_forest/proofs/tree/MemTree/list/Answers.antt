@@ -2,15 +2,13 @@ use Rattle.gt_forest.proofs.CallLemmas.{folder_is_no_file, folder_is_there}
 use Rattle.gt_forest.proofs.ListingLemmas.{is_listing}
 use Rattle.gt_forest.proofs.TreeLemmas.{held-child}
 use Rattle.gt_forest.proofs.tree.MemTree.list.Goals as goal
-use Rattle.gt_forest.specs.Answers.{IsAllowed}
-use Rattle.gt_forest.specs.Calls.{grounds}
 use Rattle.gt_forest.specs.Listing.{IsListing}
 use Rattle.gt_forest.specs.Rows.{contents_of, entry_of, folder_rows, held_at, tree_of}
 use Rattle.gt_forest.specs.Tree.{is_file}
 use Rattle.std.proofs.Common.{Some, ap, false, is_none, is_some, option_and_then, option_copied, rules, subst, sym, ◌∙◌, ◌≡◌}
 
-pub returns-clause-order : goal.returns-clause-order
-returns-clause-order c =
+pub returns-clause-ok : goal.returns-clause-ok
+returns-clause-ok c =
     let m = c.self.inside in
     let es = c.in-Some.found.now.entries in
     let there : contents_of (folder_rows m.folders) c.args.path.now ≡ Some es = search rules in

@@ -7,7 +7,7 @@ use Rattle.gt_forest.specs.Tree.{is_folder}
 use Rattle.gt_forest.specs.declared.fault.TreeFault.TheVariants.{OutOfMemory}
 use Rattle.gt_forest.specs.declared.node.Node.TheVariants.{File}
 use Rattle.gt_paths.specs.Path.{child_path}
-use Rattle.std.proofs.Common.{Err, IsSome, None, Ok, Some, ap, false, option_map, refl, rules, subst, sym, ◌∙◌, ◌≡◌}
+use Rattle.std.proofs.Common.{Err, IsSome, Some, ap, false, option_map, rules, subst, sym, ◌∙◌, ◌≡◌}
 
 pub invariant_of-self : goal.invariant_of-self
 invariant_of-self c =

@@ -1,5 +1,5 @@
 ghost use Rattle.std.specs.Prelude.{◌≡◌};
-ghost use Rattle.gt_forest.specs.declared.suite_fault.SuiteFault.TheVariants.{OutOfMemory};
+ghost use Rattle.gt_forest_suite.specs.declared.suite_fault.SuiteFault.TheVariants.{OutOfMemory};
 
 use std::alloc::{AllocError, AllocFailed};
 use thiserror::Error;
@@ -10,9 +10,9 @@ pub enum SuiteFault {
     /// A call of the forest failed, which is no verdict on it.
     #[error("the forest failed")]
     ForestFault,
-    /// The call of this step, counted from 1, had another answer than it should have.
-    #[error("step {step} had another answer")]
-    OtherAnswer { step: u32 },
+    /// The call of this number, counted from 1, had another answer than it should have.
+    #[error("call {call} had another answer")]
+    OtherAnswer { call: u64 },
     /// Memory was wanting, which is no verdict on the forest.
     #[error("out of memory")]
     OutOfMemory,
