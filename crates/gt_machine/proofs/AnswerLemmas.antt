@@ -3,9 +3,10 @@ use Rattle.std.proofs.Common.{◌≡◌, ◌≤◌, ◌<◌, ℕ, ◌+◌, ◌-�
 use Rattle.std.specs.Prelude.{IsTrue, find}
 use Rattle.std.specs.Option.{option_map, option_map_or}
 use Rattle.std.proofs.lemmas.Option.{slice_get_within}
-use Rattle.gt_machine.specs.Answer.{answer_of, doing, is_answered, refusing, reply_of, submitted}
+use Rattle.gt_machine.specs.Answer.{answer_of, doing, is_answered, refusing, submitted}
+use Rattle.gt_machine.specs.Decision.{said}
 use Rattle.gt_machine.specs.MachineState.{MachineState}
-use Rattle.gt_machine.specs.Sound.{IsSound}
+use Rattle.gt_machine.specs.Sound.{IsNumberedState, IsWithinLimits}
 use Rattle.gt_machine.specs.SoundRows.{IsNumbered}
 use Rattle.gt_machine.specs.TaskSteps.{can_issue, is_full}
 use Rattle.gt_machine.specs.Tasks.{is_of, number_of}
@@ -15,7 +16,7 @@ use Rattle.gt_machine.proofs.OneLive.{found_at}
 use Rattle.gt_setup.specs.Setup.{Setup}
 use Rattle.gt_types.specs.Reply.{is_printable}
 use Rattle.gt_types.specs.declared.command.Command.{Command}
-use Rattle.gt_types.specs.declared.command.Command.TheVariants.{AddAccess, EndAccess, IssueId, ListAccess, ListSkipped, ListSuccesses, ListTasks, ReplaceAccess, ShowAccess, ShowEndpoint, ShowTask, SubmitTransfer as AskTransfer}
+use Rattle.gt_types.specs.declared.command.Command.TheVariants.{IssueId, SubmitTransfer as AskTransfer}
 use Rattle.gt_types.specs.declared.event.Happening.TheVariants.{Issue, SubmitTransfer}
 use Rattle.gt_types.specs.declared.reply.Reply.TheVariants.{Identifier}
 use Rattle.gt_types.specs.declared.reply.ReplyCode.TheVariants.{LimitReached}
@@ -35,32 +36,23 @@ number_within owner submission rows n numbered is = by_cases (find (is_of owner 
 -- the reply to a submission, by what the tables hold
 submit_printable : (count : ℕ) (m : MachineState) (owner submission : List ℕ) (spec : TransferSpec) (now : ℕ) (o : Option ℕ) (full : Bool)
     → ((n : ℕ) → o ≡ Some n → n ≤ 100000) → (full ≡ false → length m.tasks < 100000)
-    → IsTrue (is_printable count (reply_of (option_map_or (λ task. Say (submitted false submission task)) o
+    → IsTrue (is_printable count (said (option_map_or (λ task. Say (submitted false submission task)) o
     (if full then refusing LimitReached else doing m now (SubmitTransfer owner submission spec) (submitted true submission (length m.tasks + 1))))))
 submit_printable count m owner submission spec now (Some n) full found room = let below : n ≤ 100000 = found n refl in grind (arith, rules, below)
 submit_printable count m owner submission spec now None true found room = grind rules
 submit_printable count m owner submission spec now None false found room = let below : length m.tasks < 100000 = room refl in grind (arith, rules, below)
 
 issue_printable : (count : ℕ) (m : MachineState) (identity : List ℕ) (now : ℕ) (can : Bool) → (can ≡ true → m.issued < 2 ^ 48 - 1)
-    → IsTrue (is_printable count (reply_of (if can then doing m now (Issue identity) (Identifier (m.issued + 1)) else refusing LimitReached)))
+    → IsTrue (is_printable count (said (if can then doing m now (Issue identity) (Identifier (m.issued + 1)) else refusing LimitReached)))
 issue_printable count m identity now true below = let lower : m.issued < 2 ^ 48 - 1 = below refl in grind (arith, rules, lower)
 issue_printable count m identity now false below = grind rules
 
-pub answer_printable : (setup : Setup) (m : MachineState) (identity : List ℕ) (command : Command) (now : ℕ) → IsSound setup m → IsTrue (is_answered command)
-    → IsTrue (is_printable (length setup.collections) (reply_of (answer_of setup m identity command now)))
-answer_printable setup m identity IssueId now sound answered =
+pub answer_printable : (setup : Setup) (m : MachineState) (identity : List ℕ) (command : Command) (now : ℕ) → IsNumberedState m → IsWithinLimits m → IsTrue (is_answered command)
+    → IsTrue (is_printable (length setup.collections) (said (answer_of setup m identity command now)))
+answer_printable setup m identity IssueId now numbered limits answered =
     issue_printable (length setup.collections) m identity now (can_issue m) (λ can. grind (arith, rules, can))
-answer_printable setup m identity (AskTransfer submission spec) now sound answered =
+answer_printable setup m identity (AskTransfer submission spec) now numbered limits answered =
     submit_printable (length setup.collections) m identity submission spec now (number_of identity submission m.tasks) (is_full m (length spec.entries))
-    (λ n is. omega (arith, number_within identity submission m.tasks n sound.numbered.tasks is, sound.within_limits.tasks))
+    (λ n is. omega (arith, number_within identity submission m.tasks n numbered.tasks is, limits.tasks))
     (λ room. grind (arith, rules, room))
-answer_printable setup m identity (ListTasks limit offset) now sound answered = grind rules
-answer_printable setup m identity (ShowTask task) now sound answered = grind rules
-answer_printable setup m identity (ListSuccesses task limit offset) now sound answered = grind rules
-answer_printable setup m identity (ListSkipped task limit offset) now sound answered = grind rules
-answer_printable setup m identity (ShowEndpoint collection) now sound answered = grind rules
-answer_printable setup m identity (ListAccess collection) now sound answered = grind rules
-answer_printable setup m identity (AddAccess collection spec) now sound answered = grind rules
-answer_printable setup m identity (ShowAccess collection rule) now sound answered = grind rules
-answer_printable setup m identity (EndAccess collection rule) now sound answered = grind rules
-answer_printable setup m identity (ReplaceAccess collection rule write) now sound answered = grind rules
+answer_printable setup m identity _ now numbered limits answered = absurd (cc)

@@ -49,10 +49,17 @@ effect_suits k moment (AccessAdd collection spec) m next text is good = kept _ n
 effect_suits k moment (AccessReplace rule write) m next text is good =
     let found = and_then_is _ (live_access rule m.access) next is in kept _ next (only_if_is _ _ next found.2).1 good
 effect_suits k moment (AccessEnd rule) m next text is good = kept _ next (only_if_is _ _ next is).1 good
+effect_suits k moment _ m next text is good = absurd (cc)
 
 -- what happens at a step is within its forms
 pub has_form : (setup : Setup) (m next : MachineState) (event : Event) → step_of setup m event ≡ Some next → is_recordable (length setup.collections) event ≡ true
-has_form setup m next event is = second_holds _ (is_recordable (length setup.collections) event) (first_holds _ (is_allowed setup event.what) (step_is setup m next event is).comes)
+has_form setup m next event is =
+    second_holds _ (is_recordable (length setup.collections) event) (first_holds _ (is_allowed setup m event.moment event.what) (step_is setup m next event is).comes)
+
+-- and so are its values
+pub has_values : (setup : Setup) (m next : MachineState) (event : Event) → step_of setup m event ≡ Some next → is_recordable_happening event.what ≡ true
+has_values setup m next event is =
+    second_holds (is_moment event.moment && has_collections (length setup.collections) event.what) (is_recordable_happening event.what) (has_form setup m next event is)
 
 abbrev pub HasSuited : List Event → MachineState → Type 0
 HasSuited history m = Suits m
@@ -60,9 +67,7 @@ HasSuited history m = Suits m
 pub step_suits : (setup : Setup) (history : List Event) (m next : MachineState) (event : Event) → HasSuited history m → step_of setup m event ≡ Some next → Suits next
 step_suits setup history m next event good is =
     let s : StepParts setup m next event = step_is setup m next event is in
-    let text : is_recordable_happening event.what ≡ true =
-    second_holds (is_moment event.moment && has_collections (length setup.collections) event.what) (is_recordable_happening event.what) (has_form setup m next event is) in
-    kept _ next (sym s.result) (effect_suits (m.events + 1) event.moment event.what m s.changed text s.effect good)
+    kept _ next (sym s.result) (effect_suits (m.events + 1) event.moment event.what m s.changed (has_values setup m next event is) s.effect good)
 
 pub none_suited : AllTaskApart [] []
 none_suited j q at = absurd (cc)

@@ -61,6 +61,7 @@ effect_in_order k moment (AccessAdd collection spec) m next is good = kept _ nex
 effect_in_order k moment (AccessReplace rule write) m next is good =
     let found = and_then_is _ (live_access rule m.access) next is in kept _ next (only_if_is _ _ next found.2).1 good
 effect_in_order k moment (AccessEnd rule) m next is good = kept _ next (only_if_is _ _ next is).1 good
+effect_in_order k moment _ m next is good = absurd (cc)
 
 abbrev pub HasOrderlyItems : List Event → MachineState → Type 0
 HasOrderlyItems history m = InOrder m

@@ -14,6 +14,8 @@ pub mod RuleKeys
 pub mod OneRule
 pub mod Lives
 pub mod Limits
+pub mod FewItems
+pub mod OfSetup
 pub mod CappedSums
 pub mod StepLemmas
 pub mod StepAnswers

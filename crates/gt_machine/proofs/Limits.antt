@@ -1,5 +1,5 @@
--- Each step keeps the namespace, and the limits of rows, of identifiers and of moments.
-use Rattle.std.proofs.Common.{◌≡◌, ◌≤◌, ℕ, ◌+◌, List, [], ◌∷◌, ◌++◌, length, length-append, map, true, Some, suc, refl, sym, ap, ◌∙◌, subst, arith, rules}
+-- Each step keeps the limits of rows, of identifiers and of moments.
+use Rattle.std.proofs.Common.{◌≡◌, ◌≤◌, ℕ, ◌+◌, ◌-◌, ◌^◌, List, [], ◌∷◌, ◌++◌, length, length-append, map, true, Some, suc, refl, sym, ap, ◌∙◌, subst, arith, rules}
 use Rattle.std.specs.Prelude.{nat_lt, not}
 use Rattle.gt_access.specs.Rule.{ended_access, live_access}
 use Rattle.gt_access.specs.declared.row.AccessRow.{AccessRow}
@@ -16,7 +16,6 @@ use Rattle.gt_setup.specs.Setup.{Setup}
 use Rattle.gt_machine.specs.Growth.{entry_items, first_acts, first_items}
 use Rattle.gt_machine.specs.MachineState.{MachineState, empty_state}
 use Rattle.gt_machine.specs.RuleSteps.{has_room}
-use Rattle.gt_machine.specs.Sound.{IsWithinLimits}
 use Rattle.gt_machine.specs.Step.{effect_of, step_of}
 use Rattle.gt_machine.specs.TaskSteps.{is_full, new_task, submit_step}
 use Rattle.gt_machine.proofs.ApartSteps.{has_form}
@@ -36,17 +35,25 @@ pub length-first_items : (task number : ℕ) (spec : Spec) → length (first_ite
 length-first_items task number (OfTransfer spec) = length-entry_items task number 0 (first_acts (OfTransfer spec)) ∙ length-map _ spec.entries
 length-first_items task number (OfDelete spec) = length-entry_items task number 0 (first_acts (OfDelete spec)) ∙ length-map _ spec.entries
 
+-- the numbers of all rows and of issued identifiers, and the greatest moment
+pub record HasRowLimits (m : MachineState) : Type 0 where
+  pub tasks : length m.tasks ≤ 100000
+  pub items : length m.items ≤ 400000
+  pub access : length m.access ≤ 10000
+  pub issued : m.issued ≤ 2 ^ 48 - 1
+  pub greatest : is_moment m.greatest ≡ true
+
 one_more : {X : Type 0} (xs : List X) (x : X) (n : ℕ) → nat_lt (length xs) n ≡ true → length (xs ++ x ∷ []) ≤ n
 one_more xs x n below = grind (arith, rules, length-append xs (x ∷ []), below)
 
-kept : (x next : MachineState) → x ≡ next → IsWithinLimits x → IsWithinLimits next
-kept x next is good = subst IsWithinLimits is good
+kept : (x next : MachineState) → x ≡ next → HasRowLimits x → HasRowLimits next
+kept x next is good = subst HasRowLimits is good
 
-with_access : (m : MachineState) (rows : List AccessRow) → length rows ≤ 10000 → IsWithinLimits m → IsWithinLimits (record m { access = rows })
+with_access : (m : MachineState) (rows : List AccessRow) → length rows ≤ 10000 → HasRowLimits m → HasRowLimits (record m { access = rows })
 with_access m rows within good = record { tasks = good.tasks; items = good.items; access = within; issued = good.issued; greatest = good.greatest }
 
 submit_within : (moment : ℕ) (owner submission : List ℕ) (spec : Spec) (m next : MachineState) → submit_step moment owner submission spec m ≡ Some next
-    → IsWithinLimits m → IsWithinLimits next
+    → HasRowLimits m → HasRowLimits next
 submit_within moment owner submission spec m next is good =
     let there = only_if_is _ _ next is in
     let room : not (is_full m (entry_count spec)) ≡ true = second_holds _ _ there.0 in
@@ -60,7 +67,7 @@ submit_within moment owner submission spec m next is good =
       greatest = good.greatest;
     }
 
-effect_within : (k moment : ℕ) (what : Happening) (m next : MachineState) → effect_of k moment what m ≡ Some next → IsWithinLimits m → IsWithinLimits next
+effect_within : (k moment : ℕ) (what : Happening) (m next : MachineState) → effect_of k moment what m ≡ Some next → HasRowLimits m → HasRowLimits next
 effect_within k moment (Issue identity) m next is good =
     let there = only_if_is _ _ next is in
     kept _ next there.1 record {
@@ -82,15 +89,16 @@ effect_within k moment (AccessReplace rule write) m next is good =
 effect_within k moment (AccessEnd rule) m next is good =
     let there = only_if_is _ _ next is in
     kept _ next there.1 (with_access m (ended_access k rule m.access) (subst (λ (n : ℕ). n ≤ 10000) (sym (length-map _ m.access)) good.access) good)
+effect_within k moment _ m next is good = absurd (cc)
 
 abbrev pub HasLimits : List Event → MachineState → Type 0
-HasLimits history m = IsWithinLimits m
+HasLimits history m = HasRowLimits m
 
 pub step_within : (setup : Setup) (history : List Event) (m next : MachineState) (event : Event) → HasLimits history m → step_of setup m event ≡ Some next
-    → IsWithinLimits next
+    → HasRowLimits next
 step_within setup history m next event good is =
     let s : StepParts setup m next event = step_is setup m next event is in
-    let within : IsWithinLimits s.changed = effect_within (m.events + 1) event.moment event.what m s.changed s.effect good in
+    let within : HasRowLimits s.changed = effect_within (m.events + 1) event.moment event.what m s.changed s.effect good in
     let form = has_form setup m next event is in
     let moment : is_moment event.moment ≡ true = first_holds _ (has_collections (length setup.collections) event.what) (first_holds _ (is_recordable_happening event.what) form) in
     kept _ next (sym s.result) record {
@@ -101,23 +109,5 @@ step_within setup history m next event good is =
       greatest = moment;
     }
 
-pub no_limits : (namespace : ℕ) → IsWithinLimits (empty_state namespace)
+pub no_limits : (namespace : ℕ) → HasRowLimits (empty_state namespace)
 no_limits namespace = record { tasks = omega arith; items = omega arith; access = omega arith; issued = omega arith; greatest = refl }
-
--- the identifiers keep their namespace
-effect_named : (k moment : ℕ) (what : Happening) (m next : MachineState) → effect_of k moment what m ≡ Some next → next.namespace ≡ m.namespace
-effect_named k moment (Issue identity) m next is = ap (λ (n : MachineState). n.namespace) (sym (only_if_is _ _ next is).1)
-effect_named k moment (SubmitTransfer owner submission spec) m next is = ap (λ (n : MachineState). n.namespace) (sym (only_if_is _ _ next is).1)
-effect_named k moment (AccessAdd collection spec) m next is = ap (λ (n : MachineState). n.namespace) (sym (only_if_is _ _ next is).1)
-effect_named k moment (AccessReplace rule write) m next is =
-    let found = and_then_is _ (live_access rule m.access) next is in ap (λ (n : MachineState). n.namespace) (sym (only_if_is _ _ next found.2).1)
-effect_named k moment (AccessEnd rule) m next is = ap (λ (n : MachineState). n.namespace) (sym (only_if_is _ _ next is).1)
-
-abbrev pub HasNamespace : Setup → List Event → MachineState → Type 0
-HasNamespace setup history m = m.namespace ≡ setup.namespace
-
-pub step_named : (setup : Setup) (history : List Event) (m next : MachineState) (event : Event) → HasNamespace setup history m → step_of setup m event ≡ Some next
-    → next.namespace ≡ setup.namespace
-step_named setup history m next event good is =
-    let s : StepParts setup m next event = step_is setup m next event is in
-    ap (λ (n : MachineState). n.namespace) s.result ∙ effect_named (m.events + 1) event.moment event.what m s.changed s.effect ∙ good

@@ -77,6 +77,7 @@ effect_lives e moment (AccessReplace rule write) m next is good =
     (access_ended e row.number m.access good) (starting e))
 effect_lives e moment (AccessEnd rule) m next is good =
     changed (e + 1) _ next (only_if_is _ _ next is).1 (access_ended e rule m.access good)
+effect_lives e moment _ m next is good = absurd (cc)
 
 abbrev pub HasLives : List Event → MachineState → Type 0
 HasLives history m = Lives m.events m

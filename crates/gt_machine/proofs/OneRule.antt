@@ -34,6 +34,7 @@ effect_orders k moment (AccessReplace rule write) m next is good =
     let found = and_then_is _ (live_access rule m.access) next is in
     kept _ next (only_if_is _ _ next found.2).1 (one-replaced k rule write found.0 m.access found.1 good)
 effect_orders k moment (AccessEnd rule) m next is good = kept _ next (only_if_is _ _ next is).1 (one-ended k rule m.access good)
+effect_orders k moment _ m next is good = absurd (cc)
 
 abbrev pub HasRuleOrder : List Event → MachineState → Type 0
 HasRuleOrder history m = OrderlyRules m

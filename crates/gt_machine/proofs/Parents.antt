@@ -84,6 +84,7 @@ effect_parents k moment (AccessAdd collection spec) m next is good = kept _ next
 effect_parents k moment (AccessReplace rule write) m next is good =
     let found = and_then_is _ (live_access rule m.access) next is in kept _ next (only_if_is _ _ next found.2).1 good
 effect_parents k moment (AccessEnd rule) m next is good = kept _ next (only_if_is _ _ next is).1 good
+effect_parents k moment _ m next is good = absurd (cc)
 
 abbrev pub HasParents : List Event → MachineState → Type 0
 HasParents history m = Parents m

@@ -1,13 +1,17 @@
 -- When an event has a step, and a record.
-use Rattle.std.proofs.Common.{◌≡◌, ◌≤◌, ◌+◌, length, Bool, true, false, Option, Some, None, arith, rules}
+use Rattle.std.proofs.Common.{◌≡◌, ◌≤◌, ℕ, ◌+◌, length, Bool, true, false, Option, Some, None, refl, sym, ap, arith, rules}
 use Rattle.std.specs.Prelude.{IsSome, is_some, nat_le, if◌then◌else◌, ◌&&◌}
 use Rattle.std.specs.Option.{option_map}
+use Rattle.gt_access.specs.Rule.{live_access}
+use Rattle.gt_machine.proofs.Effects.{and_then_is, only_if_is}
 use Rattle.gt_machine.specs.MachineState.{MachineState}
 use Rattle.gt_machine.specs.RuleSteps.{only_if}
 use Rattle.gt_machine.specs.Step.{counted_state, effect_of, is_allowed, may_come, next_of, step_of}
 use Rattle.gt_setup.specs.Setup.{Setup}
 use Rattle.gt_types.specs.Event.{is_recordable}
 use Rattle.gt_types.specs.declared.event.Event.{Event}
+use Rattle.gt_types.specs.declared.event.Happening.{Happening}
+use Rattle.gt_types.specs.declared.event.Happening.TheVariants.{AccessAdd, AccessEnd, AccessReplace, Issue, SubmitTransfer}
 
 pub both_hold : (a b : Bool) → a ≡ true → b ≡ true → (a && b) ≡ true
 both_hold true b in_a in_b = in_b
@@ -15,7 +19,7 @@ both_hold false b in_a in_b = absurd (cc)
 
 -- an event may come that is at the greatest moment or later, within its forms, and allowed
 pub comes : (setup : Setup) (m : MachineState) (event : Event) → m.greatest ≤ event.moment → is_recordable (length setup.collections) event ≡ true
-    → is_allowed setup event.what ≡ true → may_come setup m event ≡ true
+    → is_allowed setup m event.moment event.what ≡ true → may_come setup m event ≡ true
 comes setup m event later form allowed =
     let test : nat_le m.greatest event.moment ≡ true = grind (arith, rules, later) in
     both_hold _ _ (both_hold _ _ test form) allowed
@@ -27,12 +31,43 @@ only_if_some f false x holds = absurd (cc)
 pub step_there : (setup : Setup) (m : MachineState) (event : Event) → may_come setup m event ≡ true → IsSome (next_of m event) → IsSome (step_of setup m event)
 step_there setup m event may next = rw may next
 
+-- an event that has a step has an effect, and its step is the next state
+pub step_effect : (setup : Setup) (m : MachineState) (event : Event) → IsSome (step_of setup m event)
+    → IsSome (effect_of (m.events + 1) event.moment event.what m) × (step_of setup m event ≡ next_of m event)
+step_effect setup m event there = by_cases (may_come setup m event) (effect_of (m.events + 1) event.moment event.what m) there
+  where
+    next : Option MachineState → Option MachineState
+    next o = option_map (counted_state (m.events + 1) event.moment) o
+
+    by_cases : (b : Bool) (o : Option MachineState) → IsSome (if b then next o else None) → IsSome o × ((if b then next o else None) ≡ next o)
+    by_cases false o is = absurd (cc)
+    by_cases true None is = absurd (cc)
+    by_cases true (Some x) is = (is, refl)
+
 -- an event that may come, and that the tables allow, has a step
+pub step_allowed : (setup : Setup) (m : MachineState) (event : Event) → may_come setup m event ≡ true
+    → is_some (effect_of (m.events + 1) event.moment event.what m) ≡ true → IsSome (step_of setup m event)
+step_allowed setup m event may allowed = by_cases (may_come setup m event) (effect_of (m.events + 1) event.moment event.what m) may allowed
+  where
+    by_cases : (b : Bool) (o : Option MachineState) → b ≡ true → is_some o ≡ true → IsSome (if b then option_map (counted_state (m.events + 1) event.moment) o else None)
+    by_cases false o b_true o_there = absurd (cc)
+    by_cases true None b_true o_there = absurd (cc)
+    by_cases true (Some x) b_true o_there = o_there
+
 pub step_not_none : (setup : Setup) (m : MachineState) (event : Event) → may_come setup m event ≡ true
     → is_some (effect_of (m.events + 1) event.moment event.what m) ≡ true → step_of setup m event ≡ None → ⊥
-step_not_none setup m event may allowed none = by_cases (may_come setup m event) (effect_of (m.events + 1) event.moment event.what m) may allowed none
+step_not_none setup m event may allowed none = not_there (step_of setup m event) (step_allowed setup m event may allowed) none
   where
-    by_cases : (b : Bool) (o : Option MachineState) → b ≡ true → is_some o ≡ true → (if b then option_map (counted_state (m.events + 1) event.moment) o else None) ≡ None → ⊥
-    by_cases false o b_true o_there is = absurd (cc)
-    by_cases true None b_true o_there is = absurd (cc)
-    by_cases true (Some x) b_true o_there is = absurd (cc)
+    not_there : (o : Option MachineState) → IsSome o → o ≡ None → ⊥
+    not_there None there is = absurd (cc)
+    not_there (Some n) there is = absurd (cc)
+
+-- an effect counts nothing yet
+pub effect_uncounted : (k moment : ℕ) (what : Happening) (m next : MachineState) → effect_of k moment what m ≡ Some next → next.events ≡ m.events
+effect_uncounted k moment (Issue identity) m next is = ap (λ (n : MachineState). n.events) (sym (only_if_is _ _ next is).1)
+effect_uncounted k moment (SubmitTransfer owner submission spec) m next is = ap (λ (n : MachineState). n.events) (sym (only_if_is _ _ next is).1)
+effect_uncounted k moment (AccessAdd collection spec) m next is = ap (λ (n : MachineState). n.events) (sym (only_if_is _ _ next is).1)
+effect_uncounted k moment (AccessReplace rule write) m next is =
+    let found = and_then_is _ (live_access rule m.access) next is in ap (λ (n : MachineState). n.events) (sym (only_if_is _ _ next found.2).1)
+effect_uncounted k moment (AccessEnd rule) m next is = ap (λ (n : MachineState). n.events) (sym (only_if_is _ _ next is).1)
+effect_uncounted k moment _ m next is = absurd (cc)

@@ -72,6 +72,7 @@ effect_keeps k moment (AccessAdd collection spec) m next is = same_keys m _ next
 effect_keeps k moment (AccessReplace rule write) m next is =
     let found = and_then_is _ (live_access rule m.access) next is in same_keys m _ next (only_if_is _ _ next found.2).1 refl
 effect_keeps k moment (AccessEnd rule) m next is = same_keys m _ next (only_if_is _ _ next is).1 refl
+effect_keeps k moment _ m next is = absurd (cc)
 
 -- a step keeps the keys, or adds one
 pub step_keeps_keys : (setup : Setup) (m next : MachineState) (event : Event) → step_of setup m event ≡ Some next → KeepsKeys m next

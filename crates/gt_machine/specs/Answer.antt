@@ -10,7 +10,7 @@ use Rattle.gt_machine.specs.declared.decision.Decision.TheVariants.{Do, Say}
 use Rattle.gt_setup.specs.Setup.{Setup}
 use Rattle.gt_types.specs.Event.{is_recordable, recordable_collections}
 use Rattle.gt_types.specs.declared.command.Command.{Command}
-use Rattle.gt_types.specs.declared.command.Command.TheVariants.{AddAccess, EndAccess, IssueId, ListAccess, ListSkipped, ListSuccesses, ListTasks, ReplaceAccess, ShowAccess, ShowEndpoint, ShowTask, SubmitTransfer as AskTransfer}
+use Rattle.gt_types.specs.declared.command.Command.TheVariants.{AddAccess, AddPause, CancelTask, EndAccess, EndPause, IssueId, ListAccess, ListPauses, ListSkipped, ListSuccesses, ListTasks, ReplaceAccess, ShowAccess, ShowEndpoint, ShowPause, ShowTask, SubmitDelete as AskDelete, SubmitTransfer as AskTransfer, UpdateTask}
 use Rattle.gt_types.specs.declared.event.Event.{Event}
 use Rattle.gt_types.specs.declared.event.Happening.{Happening}
 use Rattle.gt_types.specs.declared.event.Happening.TheVariants.{Issue, SubmitTransfer}
@@ -25,15 +25,15 @@ abbrev pub event_at : MachineState → ℕ → Happening → Event
 event_at m now what = record { moment = max now m.greatest; what = what }
 
 -- an event with its answer
-abbrev pub doing : MachineState → ℕ → Happening → Reply → Decision
-doing m now what reply = Do (event_at m now what) reply
+abbrev pub doing : {A : Type 0} → MachineState → ℕ → Happening → A → Decision A
+doing m now what answer = Do (event_at m now what) answer
 
 -- a refusal
-abbrev pub refusing : ReplyCode → Decision
+abbrev pub refusing : ReplyCode → Decision Reply
 refusing code = Say (RefusedReply code)
 
 -- the next identifier, until they are used up
-abbrev pub issue_answer : MachineState → List ℕ → ℕ → Decision
+abbrev pub issue_answer : MachineState → List ℕ → ℕ → Decision Reply
 issue_answer m identity now =
     if can_issue m then doing m now (Issue identity) (Identifier (m.issued + 1)) else refusing LimitReached
 
@@ -42,7 +42,7 @@ abbrev pub submitted : Bool → List ℕ → ℕ → Reply
 submitted is_new submission task = Submitted false is_new submission task
 
 -- the task that the owner's identifier made, whatever the document, or else a new one, where there is room
-abbrev pub submit_answer : MachineState → List ℕ → List ℕ → TransferSpec → ℕ → Decision
+abbrev pub submit_answer : MachineState → List ℕ → List ℕ → TransferSpec → ℕ → Decision Reply
 submit_answer m owner submission spec now =
     option_map_or
     (λ task. Say (submitted false submission task))
@@ -50,23 +50,21 @@ submit_answer m owner submission spec now =
     (if is_full m (length spec.entries) then refusing LimitReached
     else doing m now (SubmitTransfer owner submission spec) (submitted true submission (length m.tasks + 1)))
 
--- the reply
-abbrev pub reply_of : Decision → Reply
-reply_of (Say reply) = reply
-reply_of (Do event reply) = reply
-
 -- the event, if one is made, has a step under the setup and a record
-abbrev pub HasStep : Setup → MachineState → Decision → Type 0
-HasStep setup m (Say reply) = Unit {0}
-HasStep setup m (Do event reply) =
+abbrev pub HasStep : {A : Type 0} → Setup → MachineState → Decision A → Type 0
+HasStep setup m (Say answer) = Unit {0}
+HasStep setup m (Do event answer) =
     IsSome (step_of setup m event) × IsTrue (is_recordable recordable_collections event)
 
 -- whether the command is answered yet
 abbrev pub is_answered : Command → Bool
 is_answered IssueId = true
 is_answered (AskTransfer submission spec) = true
+is_answered (AskDelete submission spec) = false
 is_answered (ListTasks limit offset) = false
 is_answered (ShowTask task) = false
+is_answered (UpdateTask task label deadline) = false
+is_answered (CancelTask task) = false
 is_answered (ListSuccesses task limit offset) = false
 is_answered (ListSkipped task limit offset) = false
 is_answered (ShowEndpoint collection) = false
@@ -75,13 +73,20 @@ is_answered (AddAccess collection spec) = false
 is_answered (ShowAccess collection rule) = false
 is_answered (EndAccess collection rule) = false
 is_answered (ReplaceAccess collection rule write) = false
+is_answered ListPauses = false
+is_answered (AddPause spec) = false
+is_answered (ShowPause rule) = false
+is_answered (EndPause rule) = false
 
 -- what is decided of the caller's request at this moment; a command that isn't answered yet is one of an unknown route
-abbrev pub answer_of : Setup → MachineState → List ℕ → Command → ℕ → Decision
+abbrev pub answer_of : Setup → MachineState → List ℕ → Command → ℕ → Decision Reply
 answer_of setup m identity IssueId now = issue_answer m identity now
 answer_of setup m identity (AskTransfer submission spec) now = submit_answer m identity submission spec now
+answer_of setup m identity (AskDelete submission spec) now = refusing NotFound
 answer_of setup m identity (ListTasks limit offset) now = refusing NotFound
 answer_of setup m identity (ShowTask task) now = refusing NotFound
+answer_of setup m identity (UpdateTask task label deadline) now = refusing NotFound
+answer_of setup m identity (CancelTask task) now = refusing NotFound
 answer_of setup m identity (ListSuccesses task limit offset) now = refusing NotFound
 answer_of setup m identity (ListSkipped task limit offset) now = refusing NotFound
 answer_of setup m identity (ShowEndpoint collection) now = refusing NotFound
@@ -90,3 +95,7 @@ answer_of setup m identity (AddAccess collection spec) now = refusing NotFound
 answer_of setup m identity (ShowAccess collection rule) now = refusing NotFound
 answer_of setup m identity (EndAccess collection rule) now = refusing NotFound
 answer_of setup m identity (ReplaceAccess collection rule write) now = refusing NotFound
+answer_of setup m identity ListPauses now = refusing NotFound
+answer_of setup m identity (AddPause spec) now = refusing NotFound
+answer_of setup m identity (ShowPause rule) now = refusing NotFound
+answer_of setup m identity (EndPause rule) now = refusing NotFound

@@ -1,11 +1,12 @@
--- Items: the classes in which they are counted, and what they copied.
-use Rattle.std.specs.Prelude.{Bool, List, None, Option, filter, is_some, length, ℕ, ◌&&◌, ◌==◌}
+-- Items: the classes in which they are counted, and what they came to.
+use Rattle.std.specs.Prelude.{Bool, List, None, Option, false, filter, is_some, length, ℕ, ◌&&◌, ◌==◌}
 use Rattle.std.specs.Option.{option_map_or}
 use Rattle.gt_machine.specs.declared.item.Class.{Class}
 use Rattle.gt_machine.specs.declared.item.Class.TheVariants.{Canceled as CanceledClass, Expired as ExpiredClass, Failed as FailedClass, Pending as PendingClass, Retrying as RetryingClass, Skipped as SkippedClass, Succeeded as SucceededClass}
 use Rattle.gt_machine.specs.declared.item.Item.{Item}
 use Rattle.gt_machine.specs.declared.item.ItemState.{ItemState}
 use Rattle.gt_machine.specs.declared.item.ItemState.TheVariants.{Pending}
+use Rattle.gt_types.specs.declared.act.Act.{Act}
 
 -- as what an item in this state is counted
 abbrev pub class_of : ItemState → Class
@@ -28,6 +29,18 @@ is_in_class class item = class_number (class_of item.state) == class_number clas
 -- the size of the file that the item copied
 abbrev pub copy_of : ItemState → Option ℕ
 copy_of Pending = None
+
+-- whether an item in this state, with this act, is counted as a file
+abbrev pub is_file : ItemState → Act → Bool
+is_file Pending act = false
+
+-- whether it is counted as a directory
+abbrev pub is_directory : ItemState → Act → Bool
+is_directory Pending act = false
+
+-- whether it is a file that was left as it was
+abbrev pub is_skipped_file : ItemState → Bool
+is_skipped_file Pending = false
 
 -- whether the item is a file that was copied
 abbrev pub is_copied : Item → Bool

@@ -1,5 +1,7 @@
 pub mod Answer
 pub mod Change
+pub mod Count
+pub mod Decision
 pub mod Growth
 pub mod Item
 pub mod MachineState
@@ -7,6 +9,7 @@ pub mod RuleSteps
 pub mod Run
 pub mod Sound
 pub mod SoundRows
+pub mod SoundValues
 pub mod Step
 pub mod TaskLine
 pub mod TaskSteps

@@ -1,7 +1,8 @@
 ghost use Rattle.std.specs.Prelude.{◌≡◌, ◌+◌, ◌<◌, ◌≤◌, ◌^◌, IsSome, Some, length};
 ghost use Rattle.gt_machine.specs.Change.{HasRoom, IsPlanned, new_items, prepared_for, prepared_rule, prepared_task};
 ghost use Rattle.gt_machine.specs.RuleSteps.{add_access_step, end_access_step, replace_access_step};
-ghost use Rattle.gt_machine.specs.Step.{effect_of, next_of};
+ghost use Rattle.gt_machine.specs.Step.{effect_of, step_of};
+ghost use Rattle.gt_setup.specs.Setup.{Setup};
 ghost use Rattle.gt_machine.specs.TaskSteps.{issue_step, new_task, submit_step};
 ghost use Rattle.gt_types.specs.declared.spec.Spec.TheVariants.{Transfer as OfTransfer};
 
@@ -14,8 +15,9 @@ use gt_values::{Id, Moment, Text};
 impl State {
     /// Makes the step of the change that was planned last, where nothing was committed since. It takes no memory.
     pub fn commit(&mut self, change: Change)
-        requires { IsPlanned self.old change }
-        ensures { next_of self.old.machine change.event ≡ Some self.new.machine }
+        requires { (setup : Setup) × IsPlanned setup self.old change }
+        ensures { (setup : Setup) → IsPlanned setup self.old change
+            → step_of setup self.old.machine change.event ≡ Some self.new.machine }
     {
         let Change { event, prepared } = change;
         let Event { moment, what } = event;
@@ -30,7 +32,8 @@ impl State {
         requires countable { self.old.machine.events < 2 ^ 63 }
         requires prepared { prepared ≡ prepared_for self.old.machine what }
         requires room { HasRoom self.old.room what prepared }
-        ensures { effect_of (self.old.machine.events + 1) moment what self.old.machine ≡ Some self.new.machine }
+        ensures { effect_of (self.old.machine.events + 1) moment what self.old.machine
+            ≡ Some self.new.machine }
     {
         let at = self.events + 1;
         match what {
@@ -45,6 +48,16 @@ impl State {
                 self.replace_rule(at, rule, write, prepared);
             }
             Happening::AccessEnd { rule } => self.end_rule(at, rule),
+            Happening::SubmitDelete { .. }
+            | Happening::PauseAdd { .. }
+            | Happening::PauseEnd { .. }
+            | Happening::Cancel { .. }
+            | Happening::Update { .. }
+            | Happening::GrantItem { .. }
+            | Happening::RefuseItem { .. }
+            | Happening::ReportItem { .. }
+            | Happening::Sweep { .. }
+            | Happening::Restart => unreachable!(),
         }
     }
 
@@ -67,7 +80,8 @@ impl State {
         requires prepared { prepared ≡ prepared_task self.old.machine (OfTransfer spec) }
         requires room_for_task { 1 ≤ self.old.room.tasks }
         requires room_for_items { length (new_items prepared) ≤ self.old.room.items }
-        ensures { submit_step moment owner submission (OfTransfer spec) self.old.machine ≡ Some self.new.machine }
+        ensures { submit_step moment owner submission (OfTransfer spec) self.old.machine
+            ≡ Some self.new.machine }
     {
         if let Prepared::Task { label, items } = prepared {
             let number = self.tasks.len() as u64 + 1;

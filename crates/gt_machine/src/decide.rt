@@ -1,6 +1,7 @@
 ghost use Rattle.std.specs.Prelude.{◌≡◌, ◌<◌, ◌^◌, IfOk, IsTrue, length};
 ghost use Rattle.gt_machine.specs.Answer as answers;
-ghost use Rattle.gt_machine.specs.Answer.{HasStep, answer_of, is_answered, reply_of};
+ghost use Rattle.gt_machine.specs.Answer.{HasStep, answer_of, is_answered};
+ghost use Rattle.gt_machine.specs.Decision.{said};
 ghost use Rattle.gt_machine.specs.Run.{IsReached};
 ghost use Rattle.gt_setup.specs.Setup.{has_identity};
 ghost use Rattle.gt_types.specs.Command.{is_command};
@@ -23,17 +24,18 @@ impl State {
         who: &Who,
         command: &Command,
         now: Moment,
-    ) -> Result<Decision, AllocError>
+    ) -> Result<Decision<Reply>, AllocError>
         requires reached { IsReached setup.now self.now.machine }
         requires countable { self.now.machine.events < 2 ^ 63 }
         requires known { IsTrue (has_identity setup.now who.now.identity) }
         requires within { IsTrue (is_command (length setup.now.collections) command.now) }
         requires answered { IsTrue (is_answered command.now) }
 
-        ensures answer { IfOk result (λ d. d ≡ answer_of setup.now self.now.machine who.now.identity command.now now) }
+        ensures answer { IfOk result (λ d. d
+            ≡ answer_of setup.now self.now.machine who.now.identity command.now now) }
 
         // The reply can be printed, and the event, if there is one, has a step and a record.
-        ensures printable { IfOk result (λ d. IsTrue (is_printable (length setup.now.collections) (reply_of d))) }
+        ensures printable { IfOk result (λ d. IsTrue (is_printable (length setup.now.collections) (said d))) }
         ensures has_step { IfOk result (HasStep setup.now self.now.machine) }
     {
         // What the types say of the identity and of the number of collections.
@@ -49,16 +51,24 @@ impl State {
         who: &Who,
         command: &Command,
         now: Moment,
-    ) -> Result<Decision, AllocError>
+    ) -> Result<Decision<Reply>, AllocError>
         requires { IsTrue (is_answered command.now) }
-        ensures { IfOk result (λ d. d ≡ answer_of setup.now self.now.machine who.now.identity command.now now) }
+        ensures { IfOk result (λ d. d
+            ≡ answer_of setup.now self.now.machine who.now.identity command.now now) }
     {
         match command {
             Command::IssueId => Ok(self.issue(who, now)),
             Command::SubmitTransfer { submission, spec } => {
                 self.submit(&who.identity, submission, spec, now)
             }
-            Command::ListTasks { .. }
+            Command::SubmitDelete { .. }
+            | Command::UpdateTask { .. }
+            | Command::CancelTask { .. }
+            | Command::ListPauses
+            | Command::AddPause { .. }
+            | Command::ShowPause { .. }
+            | Command::EndPause { .. }
+            | Command::ListTasks { .. }
             | Command::ShowTask { .. }
             | Command::ListSuccesses { .. }
             | Command::ListSkipped { .. }
@@ -71,7 +81,7 @@ impl State {
         }
     }
 
-    fn issue(&self, who: &Who, now: Moment) -> Decision
+    fn issue(&self, who: &Who, now: Moment) -> Decision<Reply>
         ensures { result ≡ answers.issue_answer self.now.machine who.now.identity now }
     {
         if !self.can_issue() {
@@ -92,8 +102,9 @@ impl State {
         submission: &Id,
         spec: &TransferSpec,
         now: Moment,
-    ) -> Result<Decision, AllocError>
-        ensures { IfOk result (λ d. d ≡ answers.submit_answer self.now.machine owner.now submission.now spec.now now) }
+    ) -> Result<Decision<Reply>, AllocError>
+        ensures { IfOk result (λ d. d
+            ≡ answers.submit_answer self.now.machine owner.now submission.now spec.now now) }
     {
         if let Some(task) = find(self.tasks.as_slice(), owner, submission) {
             return Ok(Decision::Say(submitted(false, submission, task)));
@@ -110,7 +121,7 @@ impl State {
         Ok(self.doing(now, what, submitted(true, submission, task)))
     }
 
-    fn doing(&self, now: Moment, what: Happening, reply: Reply) -> Decision
+    fn doing(&self, now: Moment, what: Happening, reply: Reply) -> Decision<Reply>
         ensures { result ≡ answers.doing self.now.machine now what reply }
     {
         let moment = now.max(self.greatest);
@@ -129,7 +140,7 @@ fn submitted(is_new: bool, submission: &Id, task: u64) -> Reply
     }
 }
 
-fn refusing(code: ReplyCode) -> Decision
+fn refusing(code: ReplyCode) -> Decision<Reply>
     ensures { result ≡ answers.refusing code }
 {
     Decision::Say(Reply::Refused { code })

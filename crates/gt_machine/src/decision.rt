@@ -1,8 +1,8 @@
-use gt_types::{Event, Reply};
+use gt_types::Event;
 
-/// The answer to a request: a reply alone, or an event that is to be made, with the reply that tells of it.
+/// What a call comes to: an answer alone, or an event that is to be made, with the answer that tells of it.
 #[derive(Debug, Drop)]
-pub enum Decision {
-    Say(Reply),
-    Do(Event, Reply),
+pub enum Decision<A> {
+    Say(A),
+    Do(Event, A),
 }

@@ -14,7 +14,8 @@ pub(crate) fn first_items(
     entries: &[TransferEntry],
 ) -> Result<Sequence<Item>, AllocError>
     requires { first + length entries.now < 2 ^ 64 }
-    ensures { IfOk result (λ items. items ≡ entry_items task first 0 (map transfer_of entries.now)) }
+    ensures { IfOk result (λ items. items
+        ≡ entry_items task first 0 (map transfer_of entries.now)) }
 {
     let mut items = Vec::with_capacity(alloc, entries.len())?;
     let mut place = 0;

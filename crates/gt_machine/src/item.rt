@@ -85,6 +85,33 @@ impl Item {
         self.state.class().number() == class.number()
     }
 
+    /// Whether the item is counted as a file.
+    pub fn is_file(&self) -> bool
+        ensures { result ≡ spec.is_file self.now.state self.now.act }
+    {
+        match self.state {
+            ItemState::Pending => false,
+        }
+    }
+
+    /// Whether the item is counted as a directory.
+    pub fn is_directory(&self) -> bool
+        ensures { result ≡ spec.is_directory self.now.state self.now.act }
+    {
+        match self.state {
+            ItemState::Pending => false,
+        }
+    }
+
+    /// Whether the item is a file that was left as it was.
+    pub fn is_skipped_file(&self) -> bool
+        ensures { result ≡ spec.is_skipped_file self.now.state }
+    {
+        match self.state {
+            ItemState::Pending => false,
+        }
+    }
+
     /// Whether the item is a file that was copied.
     pub fn is_copied(&self) -> bool
         ensures { result ≡ spec.is_copied self.now }

@@ -6,6 +6,7 @@
 
 mod change;
 mod commit;
+mod counters;
 mod decide;
 mod decision;
 mod forms;
@@ -24,8 +25,8 @@ pub use change::{Change, PlanFault, Prepared};
 pub use decision::Decision;
 pub use item::{Class, Item, ItemState};
 pub use laws::{
-    classes_sum_to_total, empty_states_are_reached, events_are_counted, moments_are_bounded,
-    reached_states_are_sound, steps_are_recordable, steps_stay_reached,
+    classes_sum_to_total, empty_states_are_reached, runs_are_sound, runs_go_on, runs_have_fronts,
+    steps_are_recordable, steps_stay_reached,
 };
 pub use line::TaskLine;
 pub use state::State;

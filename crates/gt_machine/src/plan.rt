@@ -1,9 +1,10 @@
-ghost use Rattle.std.specs.Prelude.{◌≡◌, ◌<◌, ◌^◌, ◌↔◌, None, ℕ, IfOk, IsErrOf, IsSome, OnOk, is_some};
+ghost use Rattle.std.specs.Prelude.{◌≡◌, ◌<◌, ◌^◌, ◌↔◌, None, ℕ, IfOk, IsErrOf, IsSome, is_some};
 ghost use Rattle.gt_machine.specs.Change.{HasRoom, IsPlanned, prepared_for};
 ghost use Rattle.gt_machine.specs.RuleSteps.{has_room};
 ghost use Rattle.gt_machine.specs.Run.{IsReached};
 ghost use Rattle.gt_machine.specs.Step as spec;
-ghost use Rattle.gt_machine.specs.Step.{effect_of, may_come, next_of, step_of};
+ghost use Rattle.gt_machine.specs.Step.{effect_of, may_come, step_of};
+ghost use Rattle.gt_setup.specs.Setup.{Setup as SetupValue};
 
 use crate::change::{Change, PlanFault, Prepared};
 use crate::forms::is_recordable;
@@ -12,6 +13,7 @@ use crate::state::State;
 use crate::task::find;
 use gt_setup::Setup;
 use gt_types::{AccessSpec, Event, Happening};
+use gt_values::Moment;
 use std::alloc::{AllocError, Global};
 
 // How many rows of access rules there are at most.
@@ -20,24 +22,38 @@ const MAX_RULES: usize = 10_000;
 impl State {
     /// All that the event's step takes memory for, with room for its rows. The machine stays as it is.
     ///
-    /// `NoStep` comes exactly where the machine has no step on the event.
+    /// It tests the event, as when a journal is replayed: `NoStep` comes exactly where the machine has no step on it.
     pub fn plan(&mut self, alloc: Global, setup: &Setup, event: Event) -> Result<Change, PlanFault>
         requires reached { IsReached setup.now self.old.machine }
         requires countable { self.old.machine.events < 2 ^ 63 }
 
-        ensures planned { IfOk result (λ change. (change.event ≡ event) × IsPlanned self.new change) }
-        ensures step { OnOk result (step_of setup.now self.old.machine event ≡ next_of self.old.machine event) }
-
-        ensures no_step { IsErrOf result PlanFault.NoStep ↔ (step_of setup.now self.old.machine event ≡ None) }
+        ensures planned { IfOk result (λ change. (change.event ≡ event)
+            × IsPlanned setup.now self.new change) }
+        ensures no_step { IsErrOf result PlanFault.NoStep
+            ↔ (step_of setup.now self.old.machine event ≡ None) }
         ensures unchanged { self.new.machine ≡ self.old.machine }
     {
         if !self.may_come(setup, &event) || !self.allows(&event.what) {
             return Err(PlanFault::NoStep);
         }
-        match self.prepare(alloc, &event.what) {
-            Ok(prepared) => Ok(Change { event, prepared }),
+        match self.plan_step(alloc, event) {
+            Ok(change) => Ok(change),
             Err(_) => Err(PlanFault::OutOfMemory),
         }
+    }
+
+    /// The same for an event that has a step, as each event of `decide` has: it tests nothing.
+    pub fn plan_step(&mut self, alloc: Global, event: Event) -> Result<Change, AllocError>
+        requires step { (setup : SetupValue) × IsSome (step_of setup self.old.machine event) }
+        requires countable { self.old.machine.events < 2 ^ 63 }
+
+        ensures event { IfOk result (λ change. change.event ≡ event) }
+        ensures planned { (setup : SetupValue) → IsSome (step_of setup self.old.machine event)
+            → IfOk result (IsPlanned setup self.new) }
+        ensures unchanged { self.new.machine ≡ self.old.machine }
+    {
+        let prepared = self.prepare(alloc, &event.what)?;
+        Ok(Change { event, prepared })
     }
 
     /// Whether the event may come now, whatever the tables hold.
@@ -46,7 +62,30 @@ impl State {
     {
         self.greatest <= event.moment
             && is_recordable(setup.collections(), event)
-            && is_allowed(setup, &event.what)
+            && self.is_allowed(setup, event.moment, &event.what)
+    }
+
+    /// Whether the setup allows what happens at this moment: it has the identity that acts.
+    fn is_allowed(&self, setup: &Setup, _moment: Moment, what: &Happening) -> bool
+        ensures { result ≡ spec.is_allowed setup.now self.now.machine _moment what.now }
+    {
+        match what {
+            Happening::Issue { identity } => setup.who(identity).is_some(),
+            Happening::SubmitTransfer { owner, .. } => setup.who(owner).is_some(),
+            Happening::AccessAdd { .. }
+            | Happening::AccessReplace { .. }
+            | Happening::AccessEnd { .. } => true,
+            Happening::SubmitDelete { .. }
+            | Happening::PauseAdd { .. }
+            | Happening::PauseEnd { .. }
+            | Happening::Cancel { .. }
+            | Happening::Update { .. }
+            | Happening::GrantItem { .. }
+            | Happening::RefuseItem { .. }
+            | Happening::ReportItem { .. }
+            | Happening::Sweep { .. }
+            | Happening::Restart => false,
+        }
     }
 
     /// Whether the tables allow what happens.
@@ -70,6 +109,16 @@ impl State {
                 self.has_room() && self.access.live(*rule).is_some()
             }
             Happening::AccessEnd { rule } => self.access.live(*rule).is_some(),
+            Happening::SubmitDelete { .. }
+            | Happening::PauseAdd { .. }
+            | Happening::PauseEnd { .. }
+            | Happening::Cancel { .. }
+            | Happening::Update { .. }
+            | Happening::GrantItem { .. }
+            | Happening::RefuseItem { .. }
+            | Happening::ReportItem { .. }
+            | Happening::Sweep { .. }
+            | Happening::Restart => false,
         }
     }
 
@@ -82,13 +131,24 @@ impl State {
 
     /// Takes the memory for what happens, which the tables allow.
     fn prepare(&mut self, alloc: Global, what: &Happening) -> Result<Prepared, AllocError>
-        requires { IsSome (effect_of 0 0 what.now self.old.machine) }
-        ensures prepared { IfOk result (λ prepared. prepared ≡ prepared_for self.old.machine what.now) }
+        requires { (k : ℕ) × (moment : ℕ) × IsSome (effect_of k moment what.now self.old.machine) }
+        ensures prepared { IfOk result (λ prepared. prepared
+            ≡ prepared_for self.old.machine what.now) }
         ensures room { IfOk result (HasRoom self.new.room what.now) }
         ensures unchanged { self.new.machine ≡ self.old.machine }
     {
         match what {
             Happening::Issue { .. } | Happening::AccessEnd { .. } => Ok(Prepared::Nothing),
+            Happening::SubmitDelete { .. }
+            | Happening::PauseAdd { .. }
+            | Happening::PauseEnd { .. }
+            | Happening::Cancel { .. }
+            | Happening::Update { .. }
+            | Happening::GrantItem { .. }
+            | Happening::RefuseItem { .. }
+            | Happening::ReportItem { .. }
+            | Happening::Sweep { .. }
+            | Happening::Restart => unreachable!(),
             Happening::SubmitTransfer { spec, .. } => {
                 let task = self.tasks.len() as u64 + 1;
                 let first = self.items.len() as u64 + 1;
@@ -118,18 +178,5 @@ impl State {
                 }
             }
         }
-    }
-}
-
-// Whether the setup allows what happens: it has the identity that acts.
-fn is_allowed(setup: &Setup, what: &Happening) -> bool
-    ensures { result ≡ spec.is_allowed setup.now what.now }
-{
-    match what {
-        Happening::Issue { identity } => setup.who(identity).is_some(),
-        Happening::SubmitTransfer { owner, .. } => setup.who(owner).is_some(),
-        Happening::AccessAdd { .. }
-        | Happening::AccessReplace { .. }
-        | Happening::AccessEnd { .. } => true,
     }
 }

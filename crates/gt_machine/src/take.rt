@@ -21,11 +21,13 @@ impl State {
         requires reached { IsReached setup.now self.old.machine }
         requires countable { self.old.machine.events < 2 ^ 63 }
 
-        ensures ok { OnOk result (step_of setup.now self.old.machine event ≡ Some self.new.machine) }
+        ensures ok { OnOk result (step_of setup.now self.old.machine event
+            ≡ Some self.new.machine) }
         ensures reached { IsReached setup.now self.new.machine }
         ensures counted { self.new.machine.events ≤ self.old.machine.events + 1 }
 
-        ensures no_step { IsErrOf result PlanFault.NoStep ↔ (step_of setup.now self.old.machine event ≡ None) }
+        ensures no_step { IsErrOf result PlanFault.NoStep
+            ↔ (step_of setup.now self.old.machine event ≡ None) }
         ensures unchanged { OnErr result (self.new.machine ≡ self.old.machine) }
     {
         let change = self.plan(alloc, setup, event)?;
