@@ -1,14 +1,13 @@
 -- Replaying body by body, and where it stops.
-use Rattle.std.proofs.Common.{◌≡◌, ℕ, inl, inr, ◌<◌, ◌+◌, List, [], ◌∷◌, ◌++◌, Some, Vec, Global, length, take, drop, get_or, sym, ap, subst, ◌∙◌, append_assoc, take-append-drop, length-take, arith}
+use Rattle.std.proofs.Common.{◌≡◌, ℕ, inr, ◌<◌, ◌+◌, List, [], ◌∷◌, ◌++◌, Some, Vec, Global, length, take, drop, get_or, sym, ap, subst, ◌∙◌, append_assoc, take-append-drop, length-take, arith}
 use Rattle.std.proofs.lemmas.List.{get_or-map, length-map, take_more}
-use Rattle.gt_desk.specs.Damage.{HasRecords, IsBadBody, IsDamagedAt, IsTextOf}
+use Rattle.gt_desk.specs.Damage.{HasRecords, IsBadBody, IsDamagedAs, IsDamagedAt, IsTextOf}
 use Rattle.gt_desk.specs.Desk.{events_of}
-use Rattle.gt_desk.specs.Opening.{IsBadAs, IsBadAt, IsDamagedAs, Replays}
+use Rattle.gt_desk.specs.Replay.{IsBadAs, IsBadAt, Replays}
 use Rattle.gt_desk.specs.declared.fault.OpenFault.{OpenFault}
 use Rattle.gt_desk.specs.declared.fault.OpenFault.TheVariants.{Damaged, JournalFault, OutOfMemory}
 use Rattle.gt_desk.proofs.Histories.{events_more, run_more, texts_more}
-use Rattle.gt_journal.specs.JournalText.{IsDamagedAfter}
-use Rattle.gt_journal.specs.Opening.{lists}
+use Rattle.gt_journal.specs.Reading.{lists}
 use Rattle.gt_machine.specs.MachineState.{MachineState}
 use Rattle.gt_machine.specs.Run.{run_of}
 use Rattle.gt_machine.specs.Step.{step_of}
@@ -66,17 +65,6 @@ damaged_bad setup n bodies file bad records = record {
     records = subst (λ bs. HasRecords bs file) (bad.whole ∙ ap (λ (bs : List (List ℕ)). bs ++ bad.body ∷ bad.rest) bad.replays.texts) records;
     bad = bad.bad;
   });
-}
-
--- a record that runs past the end behind bodies that replay
-pub damaged_cut : (setup : Setup) (n : ℕ) (bodies : List (List ℕ)) (m : MachineState) (file : List ℕ) → Replays setup bodies m → n ≡ length bodies → IsDamagedAfter bodies file
-    → IsDamagedAt setup n file
-damaged_cut setup n bodies m file replays count cut = record {
-  history = events_of bodies;
-  before = many_events setup bodies m replays ∙ sym count;
-  machine = m;
-  runs = replays.runs;
-  at = inl (subst (λ bs. IsDamagedAfter bs file) replays.texts cut);
 }
 
 -- a refusal of a replay, of a file that has these records

@@ -31,24 +31,47 @@ module _ (event : Event) (recordable : is_recordable recordable_collections even
       ∙ sym (map-append record_text (events_of bodies) (event ∷ []))
       ∙ ap (λ (events : List Event). map record_text events) (sym (events_more bodies))
 
-after_step : (setup : Setup) (m last : MachineState) (events more : List Event) (o : Option MachineState)
-    → ((n : MachineState) → run_from setup n events ≡ Some m → run_from setup n more ≡ Some last)
-    → option_and_then (λ n. run_from setup n events) o ≡ Some m → option_and_then (λ n. run_from setup n more) o ≡ Some last
-after_step setup m last events more None go is = absurd (cc)
-after_step setup m last events more (Some n) go is = go n is
+-- one run behind another
+pub run_append : (setup : Setup) (m middle last : MachineState) (front back : List Event) → run_from setup m front ≡ Some middle → run_from setup middle back ≡ Some last
+    → run_from setup m (front ++ back) ≡ Some last
+run_append setup m middle last [] back first second =
+    let same : m ≡ middle = cc in
+    subst (λ (s : MachineState). run_from setup s back ≡ Some last) (sym same) second
+run_append setup m middle last (event ∷ front) back first second =
+    by_step (step_of setup m event) (λ n so. run_append setup n middle last front back so second) first
+  where
+    by_step : (o : Option MachineState) → ((n : MachineState) → run_from setup n front ≡ Some middle → run_from setup n (front ++ back) ≡ Some last)
+        → option_and_then (λ n. run_from setup n front) o ≡ Some middle → option_and_then (λ n. run_from setup n (front ++ back)) o ≡ Some last
+    by_step None go is = absurd (cc)
+    by_step (Some n) go is = go n is
 
-run_from_more : (setup : Setup) (event : Event) (m last : MachineState) → step_of setup m event ≡ Some last
-    → (events : List Event) (start : MachineState) → run_from setup start events ≡ Some m → run_from setup start (events ++ event ∷ []) ≡ Some last
-run_from_more setup event m last step [] start runs =
-    let same : start ≡ m = cc in
-    ap (λ (o : Option MachineState). option_and_then (λ n. run_from setup n []) o) (subst (λ (s : MachineState). step_of setup s event ≡ Some last) (sym same) step)
-run_from_more setup event m last step (first ∷ events) start runs =
-    after_step setup m last events (events ++ event ∷ []) (step_of setup start first) (λ n so. run_from_more setup event m last step events n so) runs
+-- the rest of a run leads on from where its front led
+pub run_behind : (setup : Setup) (m middle last : MachineState) (front back : List Event) → run_from setup m front ≡ Some middle → run_from setup m (front ++ back) ≡ Some last
+    → run_from setup middle back ≡ Some last
+run_behind setup m middle last [] back first all =
+    let same : m ≡ middle = cc in
+    subst (λ (s : MachineState). run_from setup s back ≡ Some last) same all
+run_behind setup m middle last (event ∷ front) back first all =
+    by_step (step_of setup m event) (λ n so more. run_behind setup n middle last front back so more) first all
+  where
+    by_step : (o : Option MachineState) → ((n : MachineState) → run_from setup n front ≡ Some middle → run_from setup n (front ++ back) ≡ Some last → run_from setup middle back ≡ Some last)
+        → option_and_then (λ n. run_from setup n front) o ≡ Some middle → option_and_then (λ n. run_from setup n (front ++ back)) o ≡ Some last → run_from setup middle back ≡ Some last
+    by_step None go is all = absurd (cc)
+    by_step (Some n) go is all = go n is all
+
+-- a run of one event
+pub run_one : (setup : Setup) (event : Event) (m last : MachineState) → step_of setup m event ≡ Some last → run_from setup m (event ∷ []) ≡ Some last
+run_one setup event m last step = ap (λ (o : Option MachineState). option_and_then (λ n. run_from setup n []) o) step
 
 -- a run, and one event more
 pub run_more : (setup : Setup) (history : List Event) (event : Event) (m last : MachineState) → run_of setup history ≡ Some m → step_of setup m event ≡ Some last
     → run_of setup (history ++ event ∷ []) ≡ Some last
-run_more setup history event m last runs step = run_from_more setup event m last step history (empty_state setup.namespace) runs
+run_more setup history event m last runs step =
+    run_append setup (empty_state setup.namespace) m last history (event ∷ []) runs (run_one setup event m last step)
+
+-- a run of nothing stays
+pub run_none : (setup : Setup) (events : List Event) (m last : MachineState) → events ≡ [] → last ≡ m → run_from setup m events ≡ Some last
+run_none setup events m last none same = rw (none, same) refl
 
 pub runs_through : (setup : Setup) (history : List Event) (m : MachineState) → run_of setup history ≡ Some m → IsSome (run_of setup history)
 runs_through setup history m is = rw is refl

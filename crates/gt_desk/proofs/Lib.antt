@@ -1,10 +1,11 @@
-pub mod Histories
-pub mod Standing
-pub mod Damages
-pub mod Identities
-pub mod DeskCalls
-pub mod MachineCalls
-pub mod CallLemmas
-pub mod SubmissionLemmas
-pub mod Readings
-pub mod Reopenings
+mod Histories
+mod Standing
+mod JournalLemmas
+mod Damages
+mod Identities
+mod DeskCalls
+mod CallLemmas
+mod SubmissionLemmas
+mod Readings
+mod Openings
+mod Reopenings

@@ -16,7 +16,7 @@ use Rattle.gt_setup.specs.Setup.{Setup}
 use Rattle.gt_types.specs.Event.{has_collections, is_recordable, is_recordable_happening, recordable_collections}
 use Rattle.gt_types.specs.declared.event.Event.{Event}
 use Rattle.gt_types.specs.declared.event.Happening.{Happening}
-use Rattle.gt_types.specs.declared.event.Happening.TheVariants.{AccessAdd, AccessEnd, AccessReplace, Issue, SubmitTransfer}
+use Rattle.gt_types.specs.declared.event.Happening.TheVariants.{AccessAdd, PauseAdd, SubmitDelete, SubmitTransfer}
 use Rattle.gt_values.specs.Forms.{is_moment}
 
 more_room : (count n : ℕ) → count < 2 ^ 32 → nat_lt n count ≡ true → nat_lt n recordable_collections ≡ true
@@ -28,13 +28,13 @@ both_hold true false a' b' fa fb both = absurd (cc)
 both_hold false b a' b' fa fb both = absurd (cc)
 
 more_collections : (count : ℕ) (what : Happening) → count < 2 ^ 32 → has_collections count what ≡ true → has_collections recordable_collections what ≡ true
-more_collections count (Issue identity) few has = refl
 more_collections count (SubmitTransfer owner submission spec) few has =
     both_hold (nat_lt spec.source count) (nat_lt spec.destination count) (nat_lt spec.source recordable_collections) (nat_lt spec.destination recordable_collections)
     (more_room count spec.source few) (more_room count spec.destination few) has
+more_collections count (SubmitDelete owner submission spec) few has = more_room count spec.collection few has
 more_collections count (AccessAdd collection spec) few has = more_room count collection few has
-more_collections count (AccessReplace rule write) few has = refl
-more_collections count (AccessEnd rule) few has = refl
+more_collections count (PauseAdd spec) few has = more_room count spec.collection few has
+more_collections count what few has = refl
 
 -- what is recordable under a setup is recordable
 recordable_widely : (count : ℕ) (event : Event) → count < 2 ^ 32 → is_recordable count event ≡ true → is_recordable recordable_collections event ≡ true

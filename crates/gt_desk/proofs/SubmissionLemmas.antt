@@ -1,15 +1,15 @@
 -- The task that a submission made, and the machine after it.
 use Rattle.std.proofs.lemmas.Slice.Eq.{bytes_eq-Decides}
 use Rattle.std.specs.Str.{bytes_eq}
-use Rattle.std.proofs.Common.{◌≡◌, ℕ, zero, suc, ◌+◌, ◌&&◌, List, [], ◌∷◌, ◌++◌, Option, None, Some, Bool, true, false, length, refl, sym, ap, subst, ◌∙◌, if◌then◌else◌, rules}
+use Rattle.std.proofs.Common.{◌≡◌, ℕ, zero, suc, ◌+◌, ◌&&◌, List, [], ◌∷◌, ◌++◌, Option, None, Some, Bool, true, false, length, refl, sym, ap, subst, ◌∙◌, if◌then◌else◌}
 use Rattle.std.specs.Option.{option_map, option_map_or}
 use Rattle.std.specs.Prelude.{find, is_none, not, option_and_then, slice_get}
 use Rattle.gt_desk.specs.Calls.{IsOnlyTask}
-use Rattle.gt_desk.specs.DeskCall.{events_in}
-use Rattle.gt_machine.specs.Answer.{answer_of, doing, event_at, refusing, reply_of, submitted}
-use Rattle.gt_machine.specs.MachineState.{MachineState, empty_state}
+use Rattle.gt_machine.specs.Answer.{answer_of, doing, event_at, refusing, submitted}
+use Rattle.gt_machine.specs.Decision.{events_in, said}
+use Rattle.gt_machine.specs.MachineState.{MachineState}
 use Rattle.gt_machine.specs.RuleSteps.{only_if}
-use Rattle.gt_machine.specs.Run.{run_from, run_of}
+use Rattle.gt_machine.specs.Run.{run_from}
 use Rattle.gt_machine.specs.SoundRows.{HasOneTaskEach}
 use Rattle.gt_machine.specs.Step.{counted_state, may_come, step_of}
 use Rattle.gt_machine.specs.TaskSteps.{is_full, new_task, with_task}
@@ -22,29 +22,11 @@ use Rattle.gt_types.specs.SpecParts.{entry_count}
 use Rattle.gt_types.specs.declared.event.Event.{Event}
 use Rattle.gt_types.specs.declared.event.Happening.TheVariants.{SubmitTransfer}
 use Rattle.gt_types.specs.declared.command.Command.TheVariants.{SubmitTransfer as AskTransfer}
+use Rattle.gt_types.specs.declared.reply.Reply.{Reply}
 use Rattle.gt_types.specs.declared.reply.Reply.TheVariants.{Submitted}
 use Rattle.gt_types.specs.declared.reply.ReplyCode.TheVariants.{LimitReached}
 use Rattle.gt_types.specs.declared.spec.Spec.TheVariants.{Transfer as OfTransfer}
 use Rattle.gt_types.specs.declared.spec.TransferSpec.{TransferSpec}
-
--- the last step of a run
-before_step : (setup : Setup) (m last : MachineState) (event : Event) (events more : List Event) (o : Option MachineState)
-    → ((n : MachineState) → run_from setup n events ≡ Some m → run_from setup n more ≡ Some last → step_of setup m event ≡ Some last)
-    → option_and_then (λ n. run_from setup n events) o ≡ Some m → option_and_then (λ n. run_from setup n more) o ≡ Some last → step_of setup m event ≡ Some last
-before_step setup m last event events more None go first all = absurd (cc)
-before_step setup m last event events more (Some n) go first all = go n first all
-
-one_step : (setup : Setup) (last : MachineState) (o : Option MachineState) → option_and_then (λ n. run_from setup n []) o ≡ Some last → o ≡ Some last
-one_step setup last None is = is
-one_step setup last (Some n) is = is
-
-last_step : (setup : Setup) (event : Event) (m last : MachineState) (events : List Event) (start : MachineState) → run_from setup start events ≡ Some m
-    → run_from setup start (events ++ event ∷ []) ≡ Some last → step_of setup m event ≡ Some last
-last_step setup event m last [] start first all =
-    let same : start ≡ m = cc in
-    subst (λ (s : MachineState). step_of setup s event ≡ Some last) same (one_step setup last (step_of setup start event) all)
-last_step setup event m last (before ∷ events) start first all =
-    before_step setup m last event events (events ++ event ∷ []) (step_of setup start before) (λ n a b. last_step setup event m last events n a b) first all
 
 -- the tasks after a submission's event
 submitted_tasks : (setup : Setup) (m last : MachineState) (moment : ℕ) (owner submission : List ℕ) (spec : TransferSpec)
@@ -124,38 +106,37 @@ only_task owner submission tasks number one is = by_find (find (is_of owner subm
           only = λ i other at other_owner other_submission. one i place.0 other row at place.1 (other_owner ∙ sym by_owner) (other_submission ∙ sym of_submission);
         }
 
-same_run : (setup : Setup) (history : List Event) (m last : MachineState) → run_of setup history ≡ Some m → run_of setup history ≡ Some last → m ≡ last
-same_run setup history m last a b = let both = sym a ∙ b in cc
-
-append_nothing : (events : List Event) → events ++ [] ≡ events
-append_nothing events = grind rules
-
 -- what is decided of a submission, by the task that is found and by whether there is no room
-abbrev decided : MachineState → ℕ → List ℕ → List ℕ → TransferSpec → Option ℕ → Bool → Decision
+abbrev decided : MachineState → ℕ → List ℕ → List ℕ → TransferSpec → Option ℕ → Bool → Decision Reply
 decided m now owner submission spec o full =
     option_map_or (λ task. Say (submitted false submission task)) o
     (if full then refusing LimitReached else doing m now (SubmitTransfer owner submission spec) (submitted true submission (length m.tasks + 1)))
 
+one_step : (setup : Setup) (last : MachineState) (o : Option MachineState) → option_and_then (λ n. run_from setup n []) o ≡ Some last → o ≡ Some last
+one_step setup last None is = is
+one_step setup last (Some n) is = is
+
 -- after the submission was answered with this task
-pub answered_task : (setup : Setup) (owner submission : List ℕ) (spec : TransferSpec) (now : ℕ) (settled history : List Event) (m machine : MachineState)
-    → run_of setup settled ≡ Some m → run_of setup history ≡ Some machine → HasOneTaskEach machine.tasks
+pub answered_task : (setup : Setup) (owner submission : List ℕ) (spec : TransferSpec) (now : ℕ) (m machine : MachineState) (made : List Event)
+    → run_from setup m made ≡ Some machine → HasOneTaskEach machine.tasks
     → (is_delete is_new : Bool) (identifier : List ℕ) (task : ℕ)
-    → Submitted is_delete is_new identifier task ≡ reply_of (answer_of setup m owner (AskTransfer submission spec) now)
-    → history ≡ settled ++ events_in (answer_of setup m owner (AskTransfer submission spec) now)
+    → Submitted is_delete is_new identifier task ≡ said (answer_of setup m owner (AskTransfer submission spec) now)
+    → made ≡ events_in (answer_of setup m owner (AskTransfer submission spec) now)
     → IsOnlyTask owner submission task machine.tasks
-answered_task setup owner submission spec now settled history m machine runs all one is_delete is_new identifier task reply recorded =
+answered_task setup owner submission spec now m machine made runs one is_delete is_new identifier task reply recorded =
     by_tests (number_of owner submission m.tasks) refl (is_full m (length spec.entries)) reply recorded
   where
     by_tests : (o : Option ℕ) → number_of owner submission m.tasks ≡ o → (full : Bool)
-        → Submitted is_delete is_new identifier task ≡ reply_of (decided m now owner submission spec o full) → history ≡ settled ++ events_in (decided m now owner submission spec o full) → IsOnlyTask owner submission task machine.tasks
-    by_tests (Some n) e full said made =
-        let same : m ≡ machine = same_run setup settled m machine runs (subst (λ h. run_of setup h ≡ Some machine) (made ∙ append_nothing settled) all) in
+        → Submitted is_delete is_new identifier task ≡ said (decided m now owner submission spec o full) → made ≡ events_in (decided m now owner submission spec o full) → IsOnlyTask owner submission task machine.tasks
+    by_tests (Some n) e full said_so none =
+        let still : run_from setup m [] ≡ Some machine = subst (λ es. run_from setup m es ≡ Some machine) none runs in
+        let same : m ≡ machine = cc in
         let named : n ≡ task = cc in
         only_task owner submission machine.tasks task one (subst (λ s. number_of owner submission s.tasks ≡ Some task) same (e ∙ ap (λ (k : ℕ). Some k) named))
-    by_tests None e true said made = absurd (cc)
-    by_tests None e false said made =
+    by_tests None e true said_so none = absurd (cc)
+    by_tests None e false said_so event_made =
         let event = event_at m now (SubmitTransfer owner submission spec) in
-        let step = last_step setup event m machine settled (empty_state setup.namespace) runs (subst (λ h. run_of setup h ≡ Some machine) made all) in
+        let step = one_step setup machine (step_of setup m event) (subst (λ es. run_from setup m es ≡ Some machine) event_made runs) in
         let row = new_task (length m.tasks + 1) event.moment owner submission (OfTransfer spec) in
         let tasks = submitted_tasks setup m machine event.moment owner submission spec step in
         let named : length m.tasks + 1 ≡ task = cc in

@@ -1,5 +1,7 @@
 -- Where a journal's file is damaged for a desk.
 use Rattle.std.specs.Prelude.{IsTrue, List, None, Some, length, map, ℕ, ◌++◌, ◌∷◌, ◌≡◌, ◌⊎◌}
+use Rattle.gt_desk.specs.declared.fault.OpenFault.{OpenFault}
+use Rattle.gt_desk.specs.declared.fault.OpenFault.TheVariants.{Damaged}
 use Rattle.gt_journal.specs.JournalText.{IsDamagedAfter, IsJournalText}
 use Rattle.gt_machine.specs.MachineState.{MachineState}
 use Rattle.gt_machine.specs.Run.{run_of}
@@ -38,3 +40,8 @@ pub record IsDamagedAt (setup : Setup) (number : ℕ) (file : List ℕ) : Type 0
   pub machine : MachineState
   pub runs : run_of setup history ≡ Some machine
   pub at : IsDamagedAfter (map record_text history) file ⊎ IsBadAfter setup history machine file
+
+-- where a refusal says that the file is damaged, it is damaged there
+abbrev pub IsDamagedAs : Setup → List ℕ → OpenFault → Type 0
+IsDamagedAs setup file (Damaged number) = IsDamagedAt setup number file
+IsDamagedAs setup file fault = Unit {0}

@@ -1,66 +1,60 @@
--- A call of the desk: what it makes of the history and of the event in doubt.
-use Rattle.std.specs.Prelude.{Err, IsSome, List, None, Ok, Option, Result, Some, [], ℕ, ◌++◌, ◌∷◌, ◌≡◌, ◌⊎◌}
+-- A call of the desk, by the events by which it moves the machine's state: whatever is answered, and whatever its disk tells.
+use Rattle.std.proofs.Common.{inl, inr, ⊎_elim}
+use Rattle.std.specs.Prelude.{Err, IsSome, List, None, Ok, Option, Result, Some, [], ◌++◌, ◌∷◌, ◌≡◌, ◌⊎◌}
 use Rattle.gt_desk.specs.History.{Ledger}
 use Rattle.gt_desk.specs.declared.fault.DeskFault.{DeskFault}
 use Rattle.gt_desk.specs.declared.fault.DeskFault.TheVariants.{JournalFault, OutOfMemory}
-use Rattle.gt_machine.specs.Answer.{answer_of, reply_of}
+use Rattle.gt_machine.specs.Decision.{events_in, said}
 use Rattle.gt_machine.specs.MachineState.{MachineState}
-use Rattle.gt_machine.specs.Run.{run_of}
+use Rattle.gt_machine.specs.Run.{run_from}
 use Rattle.gt_machine.specs.declared.decision.Decision.{Decision}
-use Rattle.gt_machine.specs.declared.decision.Decision.TheVariants.{Do, Say}
 use Rattle.gt_setup.specs.Setup.{Setup}
-use Rattle.gt_types.specs.declared.command.Command.{Command}
 use Rattle.gt_types.specs.declared.event.Event.{Event}
-use Rattle.gt_types.specs.declared.reply.Reply.{Reply}
 
--- the event in doubt, where there is one, was kept or dropped
-abbrev pub IsSettled : Option Event → List Event → List Event → Type 0
-IsSettled None old new = new ≡ old
-IsSettled (Some event) old new = (new ≡ old) ⊎ (new ≡ old ++ event ∷ [])
+-- of the event in doubt, where there is one, this is kept: the event, or nothing
+abbrev pub IsKept : Option Event → List Event → Type 0
+IsKept None kept = kept ≡ []
+IsKept (Some event) kept = (kept ≡ []) ⊎ (kept ≡ event ∷ [])
 
--- the event that a decision makes
-abbrev pub events_in : Decision → List Event
-events_in (Say reply) = []
-events_in (Do event reply) = event ∷ []
+-- the event was dropped, or is in doubt
+abbrev pub MayCount : Event → Option Event → Type 0
+MayCount event doubt = (doubt ≡ None) ⊎ (doubt ≡ Some event)
 
--- The call was answered: the doubt was settled, the machine decided on the settled history, and its event was recorded.
-pub record Answered (setup : Setup) (identity : List ℕ) (command : Command) (now : ℕ) (old : Ledger) (reply : Reply) (new : Ledger) : Type 0 where
-  pub settled : List Event
-  pub settles : IsSettled old.doubt old.history settled
-  pub machine : MachineState
-  pub runs : run_of setup settled ≡ Some machine
-  pub replies : reply ≡ reply_of (answer_of setup machine identity command now)
-  pub recorded : new.history ≡ settled ++ events_in (answer_of setup machine identity command now)
-  pub clear : new.doubt ≡ None
+-- Recording what was decided, where nothing was in doubt: the answer is said and its event made; or the journal failed, and
+-- the event is dropped or in doubt; or memory was wanted, and nothing was made.
+abbrev pub Records : {A : Type 0} → Decision A → Result A DeskFault → (made : List Event) → (doubt : Option Event) → Type 0
+Records decision (Ok answer) made doubt = (answer ≡ said decision) × (made ≡ events_in decision) × (doubt ≡ None)
+Records decision (Err JournalFault) made doubt = (made ≡ []) × ((event : Event) × (events_in decision ≡ event ∷ []) × MayCount event doubt)
+Records decision (Err OutOfMemory) made doubt = (made ≡ []) × (doubt ≡ None)
+
+-- The doubt was settled, it was decided on the settled state, and that was recorded.
+pub record Decides {A : Type 0} (setup : Setup) (decide : MachineState → Decision A) (old : Ledger) (result : Result A DeskFault) (moved : List Event) (new : Ledger) : Type 0 where
+  pub kept : List Event
+  pub settles : IsKept old.doubt kept
+  pub settled : MachineState
+  pub leads : run_from setup old.machine kept ≡ Some settled
+  pub made : List Event
+  pub moves : moved ≡ kept ++ made
+  pub records : Records (decide settled) result made new.doubt
 
 -- The journal failed in settling: all is as before.
-pub record FailedToSettle (old new : Ledger) : Type 0 where
-  pub doubt : IsSome old.doubt
-  pub same : new ≡ old
+pub record FailsToSettle {A : Type 0} (old : Ledger) (result : Result A DeskFault) (moved : List Event) (new : Ledger) : Type 0 where
+  pub fault : result ≡ Err JournalFault
+  pub in_doubt : IsSome old.doubt
+  pub still : moved ≡ []
+  pub doubt : new.doubt ≡ old.doubt
 
--- The journal failed in recording: the doubt was settled, and the event that the machine decided on is dropped or in doubt.
-pub record FailedToRecord (setup : Setup) (identity : List ℕ) (command : Command) (now : ℕ) (old new : Ledger) : Type 0 where
-  pub settles : IsSettled old.doubt old.history new.history
-  pub machine : MachineState
-  pub runs : run_of setup new.history ≡ Some machine
-  pub event : Event
-  pub made : events_in (answer_of setup machine identity command now) ≡ event ∷ []
-  pub dropped_or_in_doubt : (new.doubt ≡ None) ⊎ (new.doubt ≡ Some event)
+-- A call that is decided so on the settled state: these events moved it.
+pub record DeskCall {A : Type 0} (setup : Setup) (decide : MachineState → Decision A) (old : Ledger) (result : Result A DeskFault) (moved : List Event) (new : Ledger) : Type 0 where
+  pub runs : run_from setup old.machine moved ≡ Some new.machine
+  pub comes : Decides setup decide old result moved new ⊎ FailsToSettle old result moved new
 
--- Memory was wanted: the doubt was settled, and nothing else.
-pub record OnlySettled (old new : Ledger) : Type 0 where
-  pub settles : IsSettled old.doubt old.history new.history
-  pub clear : new.doubt ≡ None
-
--- the call of this identity, by its result
-abbrev pub DeskCall : Setup → List ℕ → Command → ℕ → Ledger → Result Reply DeskFault → Ledger → Type 0
-DeskCall setup identity command now old (Ok reply) new = Answered setup identity command now old reply new
-DeskCall setup identity command now old (Err JournalFault) new =
-    FailedToSettle old new ⊎ FailedToRecord setup identity command now old new
-DeskCall setup identity command now old (Err OutOfMemory) new = OnlySettled old new
-
--- what recording an event makes of the ledger, where nothing was in doubt
-abbrev pub Made : Event → Ledger → Result Unit DeskFault → Ledger → Type 0
-Made event old (Ok done) new = (new.history ≡ old.history ++ event ∷ []) × (new.doubt ≡ None)
-Made event old (Err JournalFault) new = (new.history ≡ old.history) × ((new.doubt ≡ None) ⊎ (new.doubt ≡ Some event))
-Made event old (Err OutOfMemory) new = new ≡ old
+-- it is one from each history that leads to its state
+pub of_history : {A : Type 0} (setup : Setup) (decide : MachineState → Decision A) (history : List Event) (old : Ledger) (result : Result A DeskFault) (moved : List Event) (new : Ledger)
+    → DeskCall setup decide old result moved new → DeskCall setup decide (record old { history = history }) result moved (record new { history = history ++ moved })
+of_history setup decide history old result moved new call = record {
+  runs = call.runs;
+  comes = ⊎_elim
+      (λ d. inl (record { kept = d.kept; settles = d.settles; settled = d.settled; leads = d.leads; made = d.made; moves = d.moves; records = d.records }))
+      (λ f. inr (record { fault = f.fault; in_doubt = f.in_doubt; still = f.still; doubt = f.doubt })) call.comes;
+}

@@ -1,7 +1,7 @@
 pub mod History
 pub mod DeskCall
-pub mod MachineCall
-pub mod Desk
-pub mod Damage
 pub mod Opening
+pub mod Damage
+pub mod Replay
+pub mod Desk
 pub mod Calls

@@ -10,12 +10,7 @@ mod laws;
 mod preparing;
 mod replaying;
 mod steps;
-#[cfg(test)]
-mod tests;
 
 pub use desk::Desk;
 pub use fault::{DeskFault, OpenFault, OpenRefused};
-pub use laws::{
-    a_call_is_of_some_history, acknowledged_events_stay, one_history,
-    submission_sent_again_makes_one_task,
-};
+pub use laws::{acknowledged_events_stay, one_history, submission_sent_again_makes_one_task};

@@ -1,11 +1,11 @@
 // What an opening makes of the bodies that the journal hands out.
 ghost use Rattle.gt_desk.specs.Damage.{IsBadBody, IsTextOf};
-ghost use Rattle.gt_desk.specs.Opening.{IsBadAs, Replays};
-ghost use Rattle.gt_journal.specs.Opening.{lists};
+ghost use Rattle.gt_desk.specs.Replay.{IsBadAs, Replays};
+ghost use Rattle.gt_journal.specs.Reading.{lists};
 ghost use Rattle.gt_machine.specs.Run.{IsReached};
 ghost use Rattle.gt_machine.specs.Step.{step_of};
 ghost use Rattle.gt_types.specs.declared.event.Event.{Event};
-ghost use Rattle.std.specs.Prelude.{IfErr, IfOk, IsErr, IsErrOf, OnOk, Some, ◌+◌, ◌<◌, ◌^◌, ◌≡◌, ◌≤◌};
+ghost use Rattle.std.specs.Prelude.{IfErr, IfOk, IsErrOf, OnOk, Some, length, ◌+◌, ◌<◌, ◌^◌, ◌≡◌, ◌≤◌};
 
 use crate::OpenFault;
 use gt_machine::{PlanFault, State};
@@ -23,7 +23,8 @@ enum Bad {
 fn replay_one(alloc: Global, setup: &Setup, state: &mut State, body: &[u8]) -> Result<(), Bad>
     requires reached { IsReached setup.now state.old.machine }
     requires countable { state.old.machine.events < 2 ^ 63 }
-    ensures ok { OnOk result ((event : Event) × IsTextOf event body.now × (step_of setup.now state.old.machine event ≡ Some state.new.machine)) }
+    ensures ok { OnOk result ((event : Event) × IsTextOf event body.now
+        × (step_of setup.now state.old.machine event ≡ Some state.new.machine)) }
     ensures reached { IsReached setup.now state.new.machine }
     ensures counted { state.new.machine.events ≤ state.old.machine.events + 1 }
     ensures bad { IsErrOf result Bad.Body → IsBadBody setup.now state.old.machine body.now }
@@ -44,6 +45,7 @@ fn replay_one(alloc: Global, setup: &Setup, state: &mut State, body: &[u8]) -> R
 pub fn replay(alloc: Global, setup: &Setup, bodies: &[Vec<u8>]) -> Result<State, OpenFault>
     ensures ok { IfOk result (λ state. Replays setup.now (lists bodies.now) state.machine) }
     ensures reached { IfOk result (λ state. IsReached setup.now state.machine) }
+    ensures few { IfOk result (λ state. state.machine.events ≤ length bodies.now) }
     ensures bad { IfErr result (IsBadAs setup.now (lists bodies.now)) }
 {
     let mut state = State::new(alloc, setup.namespace());

@@ -1,8 +1,9 @@
 -- How a script's run goes on, and how it ends.
-use Rattle.gt_desk.specs.Desk.{Desk}
-use Rattle.gt_desk.specs.History.{Ledger, Stands}
-use Rattle.gt_disk.proofs.Moments.{started}
-use Rattle.gt_disk.specs.Disk.{NoMore}
+use Rattle.gt_causes.specs.Outcomes.{NoMore}
+use Rattle.gt_desk.specs.Desk.{Stays}
+use Rattle.gt_desk.specs.History.{Stands, StandsWith}
+use Rattle.gt_disk.specs.Moments.{started}
+use Rattle.gt_disk.specs.Disk.{DiskLaws, DiskWords}
 use Rattle.gt_machine.specs.Run.{run_of}
 use Rattle.gt_script.proofs.ReadingLemmas.{ends_behind, ends_with_next, script_text_more}
 use Rattle.gt_script.specs.Reading.{BeginsNoLine, BeginsWith, BreaksOff, EndsWithLine, Stops, TakesOneLine}
@@ -17,94 +18,83 @@ use Rattle.std.proofs.Common.{Bool, IsTrue, List, None, Option, Some, [], ap, ap
 use Rattle.transferd.proofs.CrashLemmas.{crashes_append}
 use Rattle.transferd.proofs.RunLemmas.{lines_of_more, out_text_more, script_run_more, steps_of_more, unended_more, world_at_more, world_at_steps}
 use Rattle.transferd.specs.Crashes.{CrashesKeep}
-use Rattle.transferd.specs.Endings.{Bytes, EndsAs, Gave, StopsIn, StopsLine}
+use Rattle.transferd.specs.Endings.{Stream, EndsAs, Gave, StopsIn, StopsLine}
 use Rattle.transferd.specs.MainTheorem.{Ran}
 use Rattle.transferd.specs.Output.{IsPart, line_output, out_text}
-use Rattle.transferd.specs.Printing.{exit_of_read}
-use Rattle.transferd.specs.Progress.{IsPresent, Progress, RanLine, StoppedLine}
+use Rattle.transferd.specs.Exits.{exit_of_read}
+use Rattle.transferd.specs.Progress.{IsPresent, MadeLine, Progress, StoppedLine}
 use Rattle.transferd.specs.Run.{IsUnended, Played, ScriptRun, lines_of, steps_of, world_at}
 use Rattle.transferd.specs.World.{Taken, World, world_on}
 use Rattle.transferd.specs.declared.exit.Exit.{Exit}
-use Rattle.transferd.specs.declared.exit.Exit.TheVariants.{Damaged, Done, JournalFault, OutOfMemory, ScriptRefused, SetupRefused, SinkFault, SourceFault, Usage}
+use Rattle.transferd.specs.declared.exit.Exit.TheVariants.{Damaged, Done, JournalFault, OutOfMemory, ScriptRefused, SinkFault, SourceFault}
+use Rattle.transferd.specs.declared.session.Session.{Session}
 
 -- a run that stopped in a line ends so, as its exit says
-ends_in : (exit : Exit) (setup : Setup) (start : World) (run : List Played) (last : List Taken) (script out : Bytes) → StopsIn exit setup start run last script out → EndsAs exit setup start run last script out
-ends_in Done setup start run last script out stop = absurd stop.stops
-ends_in Usage setup start run last script out stop = absurd stop.stops
-ends_in (SetupRefused fault) setup start run last script out stop = absurd stop.stops
-ends_in (ScriptRefused number) setup start run last script out stop = absurd stop.stops
-ends_in SourceFault setup start run last script out stop = absurd stop.stops
+ends_in : (exit : Exit) (setup : Setup) (start : World) (run : List Played) (last : List Taken) (script out : Stream) → StopsIn exit setup start run last script out → EndsAs exit setup start run last script out
 ends_in SinkFault setup start run last script out stop = stop
 ends_in JournalFault setup start run last script out stop = stop
 ends_in (Damaged number) setup start run last script out stop = stop
 ends_in OutOfMemory setup start run last script out stop = inr stop
+ends_in exit setup start run last script out stop = absurd stop.stops
 
 -- what was written before the line, in other words
-stops_behind : (exit : Exit) (setup : Setup) (start : World) (line : Line) (steps : List Taken) (out : Bytes) (before : List ℕ) → (IsTrue out.told → out.before ≡ before) → StopsLine exit setup start line steps out
+stops_behind : (exit : Exit) (setup : Setup) (start : World) (line : Line) (steps : List Taken) (out : Stream) (before : List ℕ) → (IsTrue out.told → out.before ≡ before) → StopsLine exit setup start line steps out
     → StopsLine exit setup start line steps (record out { before = before })
-stops_behind Done setup start line steps out before same stops = stops
-stops_behind Usage setup start line steps out before same stops = stops
-stops_behind (SetupRefused fault) setup start line steps out before same stops = stops
-stops_behind (ScriptRefused number) setup start line steps out before same stops = stops
-stops_behind SourceFault setup start line steps out before same stops = stops
 stops_behind SinkFault setup start line steps out before same (makes, part) = (makes, λ t. subst (λ (b : List ℕ). IsPart (line_output setup start line steps) b out.after) (same t) (part t))
 stops_behind JournalFault setup start line steps out before same (is, fails, none) = (is, fails, λ t. none t ∙ same t)
 stops_behind (Damaged number) setup start line steps out before same (is, fails, none) = (is, fails, λ t. none t ∙ same t)
 stops_behind OutOfMemory setup start line steps out before same (made, none) = (made, λ t. none t ∙ same t)
+stops_behind exit setup start line steps out before same stops = absurd stops
 
 -- what holds of a disk, a setup and a sink holds in other words for them
 pub carried : (F : Bool → Setup → Bool → Type 0) (honest truth : Bool) (setup opened : Setup) (told telling : Bool) → honest ≡ truth → setup ≡ opened → told ≡ telling → F honest setup told → F truth opened telling
 carried F honest truth setup opened told telling one two three holds =
     subst (λ (h : Bool). F h opened telling) one (subst (λ (s : Setup). F honest s telling) two (subst (λ (t : Bool). F honest setup t) three holds))
 
-same_ledger : (ledger : Ledger) (history : List Event) → history ≡ ledger.history → ledger.doubt ≡ None → record { history = history; doubt = None } ≡ ledger
-same_ledger ledger history same clear = ap (λ (h : List Event). record { history = h; doubt = None }) same ∙ ap (λ (d : Option Event). record { history = ledger.history; doubt = d }) (sym clear)
+-- before the first line
+module _ {D : Type 0} (words : DiskWords D) (laws : DiskLaws words) (session : Session D) (history : List Event) (runs : run_of session.desk.setup history ≡ Some session.desk.ledger.machine)
+    (same : IsTrue (words.honest session.desk.disk) → history ≡ session.desk.ledger.history) (zero : session.now ≡ 0) (images : Stays words session.desk) where
+  abbrev first_world : World
+  first_world = world_on (record session.desk.ledger { history = history }) (words.faults session.desk.disk)
 
-module _ {D : Type 0} (moment : D → ℕ) (left_since : D → ℕ → List ℕ → Type 0) (seen : D → List ℕ) (may_leave : D → List ℕ → Type 0) (faults_of : D → ℕ) (honest : Bool) where
-  -- before the first line
-  module _ (setup : Setup) (desk : Desk D) (now : ℕ) (history : List Event) (same_setup : desk.setup ≡ setup) (runs : run_of setup history ≡ Some desk.machine) (same : IsTrue honest → history ≡ desk.ledger.history)
-      (clear : desk.ledger.doubt ≡ None) (zero : now ≡ 0) (images : IsTrue honest → NoMore (Stands setup desk.ledger) (may_leave desk.disk)) (only : IsTrue honest → (c : List ℕ) → left_since desk.disk (moment desk.disk) c → may_leave desk.disk c) where
-    abbrev start : World
-    start = world_on history (faults_of desk.disk)
+  leads_first : IsPresent words (words.honest session.desk.disk) session.desk.setup first_world session
+  leads_first = record {
+    same_setup = refl;
+    is = ap (λ (n : ℕ). record { ledger = first_world.ledger; moment = n; faults = first_world.faults }) (sym zero);
+    runs = runs;
+    history = same;
+    images = λ t. subst (λ (h : List Event). NoMore (StandsWith session.desk.setup h session.desk.ledger.doubt) (words.may_leave session.desk.disk)) (sym (same t)) (images t);
+  }
 
-    leads_first : IsPresent moment left_since may_leave faults_of honest setup start desk now
-    leads_first = record {
-      same_setup = same_setup;
-      reached = runs;
-      doubt = sym clear;
-      ledger = λ t. same_ledger desk.ledger history (same t) clear;
-      present = zero;
-      faults = refl;
-      images = λ t. subst (λ (l : Ledger). NoMore (Stands setup l) (may_leave desk.disk)) (sym (same_ledger desk.ledger history (same t) clear)) (images t);
-    }
+  pub begun : (script out : Stream) → script.after ≡ script.before → out.after ≡ out.before
+      → Progress words (words.honest session.desk.disk) session.desk.setup first_world session.desk.disk 0 session 0 script out
+  begun script out read written = record {
+    run = [];
+    lines = tt;
+    unended = tt;
+    count = refl;
+    leads = leads_first;
+    crashes = λ t. started words session.desk.disk (Stands session.desk.setup first_world.ledger) (λ c left. leads_first.images t c (laws.only_now session.desk.disk c t left));
+    read = λ t. ([], refl, sym read, refl);
+    written = λ t. written ∙ sym (append-nil out.before);
+  }
 
-    pub begun : (script out : Bytes) → script.after ≡ script.before → out.after ≡ out.before → Progress moment left_since may_leave faults_of honest setup start desk.disk 0 desk now 0 script out
-    begun script out read written = record {
-      run = [];
-      lines = tt;
-      unended = tt;
-      count = refl;
-      leads = leads_first;
-      crashes = λ t. started moment left_since desk.disk (Stands setup start.ledger) (λ c left. leads_first.images t c (only t c left));
-      read = λ t. ([], refl, sym read, refl);
-      written = λ t. written ∙ sym (append-nil out.before);
-    }
-
-  module _ (setup : Setup) (start : World) (first : D) (number : ℕ) (desk : Desk D) (now taken : ℕ) (script out : Bytes) (so_far : Progress moment left_since may_leave faults_of honest setup start first number desk now taken script out) (after : List ℕ) where
+module _ {D : Type 0} (words : DiskWords D) (honest : Bool) where
+  module _ (setup : Setup) (start : World) (first : D) (number : ℕ) (session : Session D) (taken : ℕ) (script out : Stream) (so_far : Progress words honest setup start first number session taken script out) (after : List ℕ) where
     abbrev here : World
     here = world_at start so_far.run
 
     -- the run ends between two lines
-    idle : (exit : Exit) → EndsAs exit setup start so_far.run [] (record script { after = after }) out → Ran moment left_since seen may_leave faults_of honest exit setup start first desk.disk (record script { after = after }) out
+    idle : (exit : Exit) → EndsAs exit setup start so_far.run [] (record script { after = after }) out → Ran words honest exit setup start first session.desk.disk (record script { after = after }) out
     idle exit ending = record {
       run = so_far.run;
       last = [];
       lines = so_far.lines;
       rest = tt;
       ending = ending;
-      crashes = λ t. subst (λ steps. CrashesKeep moment left_since setup first start steps desk.disk) (sym (append-nil (steps_of so_far.run))) (so_far.crashes t);
+      crashes = λ t. subst (λ steps. CrashesKeep words setup first start steps session.desk.disk) (sym (append-nil (steps_of so_far.run))) (so_far.crashes t);
       kept = so_far.leads.images;
-      count = so_far.leads.faults;
+      count = ap (λ (w : World). w.faults) so_far.leads.is;
     }
 
     -- the bytes given so far, and others behind them
@@ -154,11 +144,11 @@ module _ {D : Type 0} (moment : D → ℕ) (left_since : D → ℕ → List ℕ 
     ended_between ReadOutOfMemory fits none off = inl (record { unended = so_far.unended; idle = refl; read = λ t. gave_one fits t (off t); written = so_far.written })
 
     -- no line was read
-    pub not_read : (fault : ScriptFault) (exit : Exit) (disk : D) → exit ≡ exit_of_read fault number → disk ≡ desk.disk → taken ≤ most_script_bytes → (fault ≡ ReadRefused → IsTrue script.told → BeginsNoLine setup taken script.after)
-        → (IsTrue script.told → Stops setup taken script.after after fault) → Ran moment left_since seen may_leave faults_of honest exit setup start first disk (record script { after = after }) out
+    pub not_read : (fault : ScriptFault) (exit : Exit) (disk : D) → exit ≡ exit_of_read fault number → disk ≡ session.desk.disk → taken ≤ most_script_bytes → (fault ≡ ReadRefused → IsTrue script.told → BeginsNoLine setup taken script.after)
+        → (IsTrue script.told → Stops setup taken script.after after fault) → Ran words honest exit setup start first disk (record script { after = after }) out
     not_read fault exit disk is same fits none off =
-        subst (λ (x : Exit). Ran moment left_since seen may_leave faults_of honest x setup start first disk (record script { after = after }) out) (sym is)
-        (subst (λ (x : D). Ran moment left_since seen may_leave faults_of honest (exit_of_read fault number) setup start first x (record script { after = after }) out) (sym same)
+        subst (λ (x : Exit). Ran words honest x setup start first disk (record script { after = after }) out) (sym is)
+        (subst (λ (x : D). Ran words honest (exit_of_read fault number) setup start first x (record script { after = after }) out) (sym same)
         (idle (exit_of_read fault number) (ended_between fault fits none off)))
 
     module _ (line : Line) (through : ℕ) (is : IsTrue script.told → BeginsWith setup line taken script.after after through) where
@@ -180,14 +170,14 @@ module _ {D : Type 0} (moment : D → ℕ) (left_since : D → ℕ → List ℕ 
 
       module _ (written : List ℕ) where
         -- what a crash leaves through the line
-        crashes_on : (new : D) (steps : List Taken) → (IsTrue honest → CrashesKeep moment left_since setup desk.disk here steps new) → IsTrue honest → CrashesKeep moment left_since setup first start (steps_of so_far.run ++ steps) new
+        crashes_on : (new : D) (steps : List Taken) → (IsTrue honest → CrashesKeep words setup session.desk.disk here steps new) → IsTrue honest → CrashesKeep words setup first start (steps_of so_far.run ++ steps) new
         crashes_on new steps keeps t =
-            crashes_append moment left_since setup first desk.disk new start (steps_of so_far.run) steps (so_far.crashes t)
-            (subst (λ w. CrashesKeep moment left_since setup desk.disk w steps new) (sym (world_at_steps start so_far.run)) (keeps t))
+            crashes_append words setup first session.desk.disk new start (steps_of so_far.run) steps (so_far.crashes t)
+            (subst (λ w. CrashesKeep words setup session.desk.disk w steps new) (sym (world_at_steps start so_far.run)) (keeps t))
 
         -- the run stopped in the line
-        pub stopped : (exit : Exit) (new : D) → StoppedLine moment left_since may_leave faults_of honest exit setup line here desk.disk new (record { told = out.told; before = out.after; after = written })
-            → Ran moment left_since seen may_leave faults_of honest exit setup start first new (record script { after = after }) (record out { after = written })
+        pub stopped : (exit : Exit) (new : D) → StoppedLine words honest exit setup line here session.desk.disk new (record { told = out.told; before = out.after; after = written })
+            → Ran words honest exit setup start first new (record script { after = after }) (record out { after = written })
         stopped exit new stop = record {
           run = so_far.run;
           last = stop.steps;
@@ -204,7 +194,7 @@ module _ {D : Type 0} (moment : D → ℕ) (left_since : D → ℕ → List ℕ 
           count = stop.count;
         }
 
-        module _ (next : Desk D) (later : ℕ) (ran : RanLine moment left_since may_leave faults_of honest setup line here desk.disk next later (record { told = out.told; before = out.after; after = written })) where
+        module _ (next : Session D) (print : List ℕ) (ran : MadeLine words honest setup line here session.desk.disk next print) (wrote : IsTrue out.told → written ≡ out.after ++ print) where
           abbrev played : Played
           played = record { line = line; steps = ran.steps }
 
@@ -213,19 +203,20 @@ module _ {D : Type 0} (moment : D → ℕ) (left_since : D → ℕ → List ℕ 
 
           all_written : IsTrue out.told → written ≡ out.before ++ out_text setup start (so_far.run ++ played ∷ [])
           all_written t =
-              ran.written t
+              wrote t
+              ∙ ap (λ s. out.after ++ s) (sym ran.prints)
               ∙ ap (λ s. s ++ line_output setup here line ran.steps) (so_far.written t)
               ∙ append_assoc out.before (out_text setup start so_far.run) (line_output setup here line ran.steps)
               ∙ ap (λ s. out.before ++ s) (sym (out_text_more setup start so_far.run played))
 
-          leads_on : IsPresent moment left_since may_leave faults_of honest setup (world_at start (so_far.run ++ played ∷ [])) next later
-          leads_on = subst (λ w. IsPresent moment left_since may_leave faults_of honest setup w next later) (sym (world_at_more start so_far.run played)) ran.leads
+          leads_on : IsPresent words honest setup (world_at start (so_far.run ++ played ∷ [])) next
+          leads_on = subst (λ w. IsPresent words honest setup w next) (sym (world_at_more start so_far.run played)) ran.leads
 
-          all_crashes : IsTrue honest → CrashesKeep moment left_since setup first start (steps_of (so_far.run ++ played ∷ [])) next.disk
-          all_crashes t = subst (λ steps. CrashesKeep moment left_since setup first start steps next.disk) (sym (steps_of_more so_far.run played)) (crashes_on next.disk ran.steps ran.crashes t)
+          all_crashes : IsTrue honest → CrashesKeep words setup first start (steps_of (so_far.run ++ played ∷ [])) next.desk.disk
+          all_crashes t = subst (λ steps. CrashesKeep words setup first start steps next.desk.disk) (sym (steps_of_more so_far.run played)) (crashes_on next.desk.disk ran.steps ran.crashes t)
 
           -- one line more, which isn't the end
-          pub more : line ≢ End → Progress moment left_since may_leave faults_of honest setup start first (number + 1) next later through (record script { after = after }) (record out { after = written })
+          pub more : line ≢ End → Progress words honest setup start first (number + 1) next through (record script { after = after }) (record out { after = written })
           more other = record {
             run = so_far.run ++ played ∷ [];
             lines = all_lines;
@@ -238,19 +229,21 @@ module _ {D : Type 0} (moment : D → ℕ) (left_since : D → ℕ → List ℕ 
           }
 
           -- the end
-          pub done : line ≡ End → (disk : D) → disk ≡ next.disk → Ran moment left_since seen may_leave faults_of honest Done setup start first disk (record script { after = after }) (record out { after = written })
-          done end disk same = subst (λ (x : D). Ran moment left_since seen may_leave faults_of honest Done setup start first x (record script { after = after }) (record out { after = written })) (sym same) (record {
-            run = so_far.run ++ played ∷ [];
-            last = [];
-            lines = all_lines;
-            rest = tt;
-            ending = record {
-              ended = (lines_of so_far.run, so_far.unended, lines_of_more so_far.run played ∙ ap (λ l. lines_of so_far.run ++ l ∷ []) end);
-              idle = refl;
-              read = λ t. subst (λ ls. Gave setup ls (record script { after = after }) []) (sym (lines_of_more so_far.run played)) (gave_all t);
-              written = all_written;
-            };
-            crashes = λ t. subst (λ steps. CrashesKeep moment left_since setup first start steps next.disk) (sym (append-nil (steps_of (so_far.run ++ played ∷ [])))) (all_crashes t);
-            kept = leads_on.images;
-            count = leads_on.faults;
-          })
+          pub done : line ≡ End → (exit : Exit) → exit ≡ Done → (disk : D) → disk ≡ next.desk.disk → Ran words honest exit setup start first disk (record script { after = after }) (record out { after = written })
+          done end exit is disk same =
+              subst (λ (e : Exit). Ran words honest e setup start first disk (record script { after = after }) (record out { after = written })) (sym is)
+              (subst (λ (x : D). Ran words honest Done setup start first x (record script { after = after }) (record out { after = written })) (sym same) (record {
+                run = so_far.run ++ played ∷ [];
+                last = [];
+                lines = all_lines;
+                rest = tt;
+                ending = record {
+                  ended = (lines_of so_far.run, so_far.unended, lines_of_more so_far.run played ∙ ap (λ l. lines_of so_far.run ++ l ∷ []) end);
+                  idle = refl;
+                  read = λ t. subst (λ ls. Gave setup ls (record script { after = after }) []) (sym (lines_of_more so_far.run played)) (gave_all t);
+                  written = all_written;
+                };
+                crashes = λ t. subst (λ steps. CrashesKeep words setup first start steps next.desk.disk) (sym (append-nil (steps_of (so_far.run ++ played ∷ [])))) (all_crashes t);
+                kept = leads_on.images;
+                count = ap (λ (w : World). w.faults) leads_on.is;
+              }))

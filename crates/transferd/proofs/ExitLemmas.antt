@@ -1,26 +1,27 @@
 -- The bytes of a setup, of a script and of a journal come to one exit where nothing fails.
-use Rattle.gt_desk.specs.Damage.{IsDamagedAt}
+use Rattle.gt_desk.specs.Damage.{IsDamagedAs, IsDamagedAt}
 use Rattle.gt_desk.specs.History.{StandsFor}
-use Rattle.gt_desk.specs.Opening.{IsDamagedAs}
 use Rattle.gt_desk.specs.declared.fault.OpenFault.{OpenFault}
 use Rattle.gt_desk.specs.declared.fault.OpenFault.TheVariants.{Damaged as OpenDamaged}
 use Rattle.gt_script.proofs.ReadingLemmas.{nothing_more, one_reading, reads_before, same_lines}
 use Rattle.gt_script.specs.Script.{Reads}
 use Rattle.gt_script.specs.declared.line.Line.{Line}
 use Rattle.gt_script.specs.declared.line.Line.TheVariants.{End}
+use Rattle.gt_disk.specs.Disk.{DiskWords}
 use Rattle.gt_setup.specs.Grammar.{setup_of}
 use Rattle.gt_setup.specs.Setup.{Setup}
 use Rattle.gt_setup.specs.declared.fault.SetupFault.{SetupFault}
 use Rattle.gt_types.specs.declared.event.Event.{Event}
 use Rattle.std.proofs.Common.{Bool, Err, IsTrue, List, Ok, Result, [], ap, append-nil, false, inl, inr, length, refl, subst, sym, ⊎_elim, ◌++◌, ◌+◌, ◌<◌, ◌∙◌, ◌∷◌, ◌≡◌, ◌^◌, ◌⊎◌, ℕ}
 use Rattle.std.proofs.lemmas.List.{length-map}
-use Rattle.transferd.specs.Endings.{Bytes}
-use Rattle.transferd.specs.Exits.{DeskExit, ExitFor, IsFault, HasCauses, IsUnlessFault, NoneRose, ScriptExit, UnderSetup, setup_read}
-use Rattle.transferd.specs.MainTheorem.{DeskTheorem, HasNoSetup, Ran, ReadsSetup}
-use Rattle.transferd.specs.Run.{FailsToReopen, IsUnended, lines_of}
-use Rattle.transferd.specs.World.{NotOpened, Reopen, Step, Taken, Told, World, WorldRun, WorldStep}
+use Rattle.transferd.specs.Endings.{Stream}
+use Rattle.transferd.specs.Exits.{DeskExit, ExitFor, Faults, HasCauses, IsFault, IsUnlessFault, NoneRose, ScriptExit, UnderSetup, setup_read}
+use Rattle.transferd.specs.MainTheorem.{DeskTheorem, Ran}
+use Rattle.transferd.specs.Opening.{IsNotRead, ReadsSetup}
+use Rattle.transferd.specs.Run.{IsUnended, ReopenFails, lines_of}
+use Rattle.transferd.specs.World.{NotOpened, Reopen, Step, StepAnswer, Taken, World, WorldRun, WorldStep}
 use Rattle.transferd.specs.declared.exit.Exit.{Exit}
-use Rattle.transferd.specs.declared.exit.Exit.TheVariants.{Damaged, Done, JournalFault, OutOfMemory, ScriptRefused, SetupRefused, SinkFault, SourceFault, Usage}
+use Rattle.transferd.specs.declared.exit.Exit.TheVariants.{Damaged, Done, JournalFault, OutOfMemory, ScriptRefused, SetupRefused, SinkFault, SourceFault}
 
 module _ (setup : Setup) where
   -- lines that go on behind an end are ended
@@ -92,50 +93,30 @@ module _ (few : Setup → Type 0) (apart : (setup : Setup) (history : List Event
   one_exit (SetupRefused f) (ScriptRefused m) a b = absurd (refused (λ s. DeskExit s script file (ScriptRefused m)) f b a)
   one_exit (SetupRefused f) (Damaged m) a b = absurd (refused (λ s. IsDamagedAt s m file) f b a)
   one_exit (SetupRefused f) (SetupRefused g) a b = ap (λ x. SetupRefused x) (one_fault (setup_of (setup_read bytes)) f g a b)
-  one_exit Usage other a b = absurd a
-  one_exit SourceFault other a b = absurd a
-  one_exit SinkFault other a b = absurd a
-  one_exit JournalFault other a b = absurd a
-  one_exit OutOfMemory other a b = absurd a
-  one_exit Done Usage a b = absurd b
-  one_exit Done SourceFault a b = absurd b
-  one_exit Done SinkFault a b = absurd b
-  one_exit Done JournalFault a b = absurd b
-  one_exit Done OutOfMemory a b = absurd b
-  one_exit (ScriptRefused n) Usage a b = absurd b
-  one_exit (ScriptRefused n) SourceFault a b = absurd b
-  one_exit (ScriptRefused n) SinkFault a b = absurd b
-  one_exit (ScriptRefused n) JournalFault a b = absurd b
-  one_exit (ScriptRefused n) OutOfMemory a b = absurd b
-  one_exit (Damaged n) Usage a b = absurd b
-  one_exit (Damaged n) SourceFault a b = absurd b
-  one_exit (Damaged n) SinkFault a b = absurd b
-  one_exit (Damaged n) JournalFault a b = absurd b
-  one_exit (Damaged n) OutOfMemory a b = absurd b
-  one_exit (SetupRefused f) Usage a b = absurd b
-  one_exit (SetupRefused f) SourceFault a b = absurd b
-  one_exit (SetupRefused f) SinkFault a b = absurd b
-  one_exit (SetupRefused f) JournalFault a b = absurd b
-  one_exit (SetupRefused f) OutOfMemory a b = absurd b
+  one_exit Done other a b = absurd b
+  one_exit (ScriptRefused n) other a b = absurd b
+  one_exit (Damaged n) other a b = absurd b
+  one_exit (SetupRefused f) other a b = absurd b
+  one_exit exit other a b = absurd a
 
 -- a step that finds the journal damaged
-finds_damage : (setup : Setup) (honest : Bool) (start : World) (last : List Taken) (number : ℕ) → FailsToReopen (OpenDamaged number) last → WorldRun setup honest start last → honest ≡ false
+finds_damage : (setup : Setup) (honest : Bool) (start : World) (last : List Taken) (number : ℕ) → ReopenFails (OpenDamaged number) last → WorldRun setup honest start last → honest ≡ false
 finds_damage setup honest start [] number is run = absurd is
 finds_damage setup honest start (taken ∷ []) number (reopens, told) run =
-    let step : WorldStep setup honest start Reopen taken.told taken.world = subst (λ (s : Step). WorldStep setup honest start s taken.told taken.world) reopens run.0 in
-    let finds : WorldStep setup honest start Reopen (NotOpened (OpenDamaged number)) taken.world = subst (λ (t : Told). WorldStep setup honest start Reopen t taken.world) told step in
-    finds.2
+    let step : WorldStep setup honest start Reopen taken.answer taken.world = subst (λ (s : Step). WorldStep setup honest start s taken.answer taken.world) reopens run.0 in
+    let closed : WorldStep setup honest start Reopen (NotOpened (OpenDamaged number)) taken.world = subst (λ (a : StepAnswer). WorldStep setup honest start Reopen a taken.world) told step in
+    closed.fails.0
 finds_damage setup honest start (taken ∷ second ∷ rest) number is run = absurd is
 
-module _ {D : Type 0} (moment : D → ℕ) (left_since : D → ℕ → List ℕ → Type 0) (seen : D → List ℕ) (may_leave : D → List ℕ → Type 0) (faults_of : D → ℕ) (honest : Bool) (setup : Setup) (old new : D) (script out : Bytes) where
+module _ {D : Type 0} (words : DiskWords D) (honest : Bool) (setup : Setup) (old new : D) (script out : Stream) where
   -- the exit of a run through the end
-  done_exit : (start : World) (first : D) → Ran moment left_since seen may_leave faults_of honest Done setup start first new script out → IsTrue script.told → ScriptExit setup script.before Done
+  done_exit : (start : World) (first : D) → Ran words honest Done setup start first new script out → IsTrue script.told → ScriptExit setup script.before Done
   done_exit start first ran told =
       let given = ran.ending.read told in
       (lines_of ran.run, script.after, reads_before setup (lines_of ran.run) script.before given.taken [] script.after given.whole given.reads, ran.ending.ended)
 
   -- the exit of a run whose next line is refused
-  refused_exit : (start : World) (first : D) (number : ℕ) → Ran moment left_since seen may_leave faults_of honest (ScriptRefused number) setup start first new script out → IsTrue script.told → ScriptExit setup script.before (ScriptRefused number)
+  refused_exit : (start : World) (first : D) (number : ℕ) → Ran words honest (ScriptRefused number) setup start first new script out → IsTrue script.told → ScriptExit setup script.before (ScriptRefused number)
   refused_exit start first number ran told =
       let ((beyond, given), ends) = ran.ending.read told in (
         lines_of ran.run,
@@ -147,46 +128,40 @@ module _ {D : Type 0} (moment : D → ℕ) (left_since : D → ℕ → List ℕ 
       )
 
   -- the exit of an opened desk or of one that was refused
-  pub exit_of_desk : (bytes : List ℕ) → setup_of (setup_read bytes) ≡ Ok setup → (exit : Exit) → DeskTheorem moment left_since seen may_leave faults_of honest exit setup old new script out → IsTrue script.told → IsTrue honest
-      → ExitFor bytes script.before (seen old) exit ⊎ IsFault exit
+  pub exit_of_desk : (bytes : List ℕ) → setup_of (setup_read bytes) ≡ Ok setup → (exit : Exit) → DeskTheorem words honest exit setup old new script out → IsTrue script.told → IsTrue honest
+      → ExitFor bytes script.before (words.seen old) exit ⊎ IsFault exit
   exit_of_desk bytes stands Done did told keeps =
-      ⊎_elim (λ served. inl (setup, stands, ((served.history, served.file keeps), done_exit _ served.disk served.ran told))) (λ refused. absurd refused.told) did
+      ⊎_elim (λ served. inl (setup, stands, ((served.found.history, served.file keeps), done_exit _ served.disk served.ran told))) (λ refused. absurd refused.told) did
   exit_of_desk bytes stands (ScriptRefused number) did told keeps =
-      ⊎_elim (λ served. inl (setup, stands, ((served.history, served.file keeps), refused_exit _ served.disk number served.ran told))) (λ refused. absurd refused.told) did
+      ⊎_elim (λ served. inl (setup, stands, ((served.found.history, served.file keeps), refused_exit _ served.disk number served.ran told))) (λ refused. absurd refused.told) did
   exit_of_desk bytes stands (Damaged number) did told keeps =
       ⊎_elim
       (λ served.
       let finds : honest ≡ false = finds_damage setup honest _ served.ran.last number served.ran.ending.stops.1 served.ran.rest in
       let no : ⊥ = cc in absurd no)
-      (λ refused. inl (setup, stands, subst (λ (fault : OpenFault). IsDamagedAs setup (seen old) fault) refused.told (refused.damaged keeps))) did
-  exit_of_desk bytes stands Usage did told keeps = ⊎_elim (λ served. absurd served.ran.ending) (λ refused. absurd refused.told) did
-  exit_of_desk bytes stands (SetupRefused fault) did told keeps = ⊎_elim (λ served. absurd served.ran.ending) (λ refused. absurd refused.told) did
+      (λ refused. inl (setup, stands, subst (λ (fault : OpenFault). IsDamagedAs setup (words.seen old) fault) refused.told (refused.damaged keeps))) did
   exit_of_desk bytes stands SourceFault did told keeps = inr (inl refl)
   exit_of_desk bytes stands SinkFault did told keeps = inr (inr (inl refl))
   exit_of_desk bytes stands JournalFault did told keeps = inr (inr (inr (inl refl)))
   exit_of_desk bytes stands OutOfMemory did told keeps = inr (inr (inr (inr refl)))
+  exit_of_desk bytes stands exit did told keeps = ⊎_elim (λ served. absurd served.ran.ending) (λ refused. absurd refused.told) did
 
 -- the setup that was read is that of the source's bytes
-stands_read : (source : Bytes) (bytes : List ℕ) (r : Result Setup SetupFault) → ReadsSetup source bytes → IsTrue source.told → setup_of bytes ≡ r → setup_of (setup_read source.before) ≡ r
+stands_read : (source : Stream) (bytes : List ℕ) (r : Result Setup SetupFault) → ReadsSetup source bytes → IsTrue source.told → setup_of bytes ≡ r → setup_of (setup_read source.before) ≡ r
 stands_read source bytes r read told stands = ap setup_of (sym (read.all told)) ∙ stands
 
 -- where the bytes of a setup, of a script and of a journal come to one exit
-module _ (source : Bytes) (script file : List ℕ)
+module _ (source : Stream) (script file : List ℕ)
     (one : (exit other : Exit) → ((opened : Setup) → setup_of (setup_read source.before) ≡ Ok opened → length opened.collections < 2 ^ 32) → ExitFor source.before script file exit → ExitFor source.before script file other → exit ≡ other)
     (exit : Exit) (is : ExitFor source.before script file exit) where
   -- no setup was read
-  pub exit_without_setup : (result : Exit) → HasNoSetup result source → IsTrue source.told → IsUnlessFault exit result
+  pub exit_without_setup : (result : Exit) → IsNotRead source result → IsTrue source.told → IsUnlessFault exit result
   exit_without_setup (SetupRefused fault) none told =
       let stands = stands_read source none.bytes (Err fault) none.read told none.stands in
       inl (one (SetupRefused fault) exit (λ opened also. absurd (setup_or_fault (setup_of (setup_read source.before)) opened fault also stands)) stands is)
   exit_without_setup SourceFault none told = inr (inl refl)
   exit_without_setup OutOfMemory none told = inr (inr (inr (inr refl)))
-  exit_without_setup Done none told = absurd none
-  exit_without_setup Usage none told = absurd none
-  exit_without_setup (ScriptRefused number) none told = absurd none
-  exit_without_setup SinkFault none told = absurd none
-  exit_without_setup JournalFault none told = absurd none
-  exit_without_setup (Damaged number) none told = absurd none
+  exit_without_setup exit none told = absurd none
 
   -- a setup was read
   pub exit_under_setup : (bytes : List ℕ) (setup : Setup) → ReadsSetup source bytes → setup_of bytes ≡ Ok setup → IsTrue source.told → length setup.collections < 2 ^ 32
@@ -199,8 +174,8 @@ module _ (source : Bytes) (script file : List ℕ)
       (comes stands_all)
 
 -- what comes where no device failed
-pub complete_exit : (exit result : Exit) (a a' b b' k k' d d' : ℕ) → IsUnlessFault exit result → HasCauses result a a' b b' k k' d d' → NoneRose a a' b b' k k' d d' → (result ≡ exit) ⊎ (result ≡ OutOfMemory)
-complete_exit exit result a a' b b' k k' d d' comes causes none =
+pub complete_exit : (exit result : Exit) (a a' : ℕ) (before after : Faults) → IsUnlessFault exit result → HasCauses result a a' before after → NoneRose a a' before after → (result ≡ exit) ⊎ (result ≡ OutOfMemory)
+complete_exit exit result a a' before after comes causes none =
     ⊎_elim (λ same. inl same)
     (λ fault. ⊎_elim (λ source. absurd (⊎_elim none.setup none.script (causes.source source)))
     (λ other. ⊎_elim (λ sink. absurd (none.out (causes.sink sink)))

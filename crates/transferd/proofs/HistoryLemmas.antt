@@ -1,75 +1,77 @@
 -- Each history of a run leads through sound states.
+use Rattle.gt_desk.specs.History.{Ledger}
+use Rattle.gt_desk.specs.Opening.{FailsToReopen, opening_events}
+use Rattle.gt_desk.specs.declared.fault.OpenFault.{OpenFault}
+use Rattle.gt_desk.specs.declared.fault.OpenFault.TheVariants.{Damaged, JournalFault, OutOfMemory}
 use Rattle.gt_machine.specs.MachineState.{MachineState, empty_state}
-use Rattle.gt_machine.specs.Run.{IsReached, run_from, run_of}
+use Rattle.gt_machine.specs.Run.{run_from, run_of}
 use Rattle.gt_machine.specs.Sound.{IsSound}
-use Rattle.gt_machine.specs.Step.{step_of}
 use Rattle.gt_setup.specs.Setup.{Setup}
 use Rattle.gt_types.specs.declared.event.Event.{Event}
-use Rattle.std.proofs.Common.{Bool, List, None, Option, Some, [], append_assoc, refl, subst, sym, ◌++◌, ◌∷◌, ◌≡◌}
+use Rattle.gt_types.specs.declared.reply.Reply.{Reply}
+use Rattle.std.proofs.Common.{Bool, List, Result, Some, [], append_assoc, ap, subst, sym, ⊎_elim, ◌++◌, ◌∙◌, ◌∷◌, ◌≡◌, ℕ}
 use Rattle.std.specs.List.{AllByRecursion}
-use Rattle.std.specs.Prelude.{option_and_then}
 use Rattle.transferd.specs.MainTheorem.{IsSoundThroughout}
 use Rattle.transferd.specs.Run.{Played, ScriptRun, steps_of, world_at}
-use Rattle.transferd.specs.World.{Ask, NoMemory, NotOpened, Quiet, Reopen, Reopened, Replied, SetMoment, Step, Taken, Told, Unavailable, World, WorldRun, WorldStep, world_after}
+use Rattle.transferd.specs.World.{Ask, Asks, NoMemory, NotOpened, Quiet, Reopen, Reopened, Replied, SetMoment, Step, StepAnswer, Taken, Unavailable, World, WorldRun, WorldStep, world_after}
 
-module _ (setup : Setup) where
-  -- a front of a history that has a run has one
-  run_front : (m last : MachineState) (before rest : List Event) → run_from setup m (before ++ rest) ≡ Some last → (n : MachineState) × (run_from setup m before ≡ Some n)
-  run_front m last [] rest e = (m, refl)
-  run_front m last (event ∷ before) rest e =
-      elim (step_of setup m event) as (λ (o : Option MachineState). option_and_then (λ next. run_from setup next (before ++ rest)) o ≡ Some last → (n : MachineState) × (option_and_then (λ next. run_from setup next before) o ≡ Some n)) [
-        | None ↦ λ h. let no : ⊥ = cc in absurd no
-        | Some next ↦ λ h. run_front next last before rest h
-      ] e
+-- what the machine says of runs
+pub record RunLaws (setup : Setup) : Type 0 where
+  pub sound : (history : List Event) (m : MachineState) → run_of setup history ≡ Some m → IsSound setup history m
+  pub go_on : (m middle last : MachineState) (front back : List Event) → run_from setup m front ≡ Some middle → run_from setup middle back ≡ Some last → run_from setup m (front ++ back) ≡ Some last
+  pub fronts : (m last : MachineState) (front back : List Event) → run_from setup m (front ++ back) ≡ Some last → (middle : MachineState) × (run_from setup m front ≡ Some middle) × (run_from setup middle back ≡ Some last)
 
-  -- each history on the way is sound where each state that is reached is
-  pub sound_throughout : (history : List Event) (machine : MachineState) → run_of setup history ≡ Some machine → ((m : MachineState) → IsReached setup m → IsSound setup m) → IsSoundThroughout setup history
-  sound_throughout history machine run law before rest whole =
+module _ (setup : Setup) (laws : RunLaws setup) where
+  -- each history on the way is sound
+  pub sound_throughout : (history : List Event) (machine : MachineState) → run_of setup history ≡ Some machine → IsSoundThroughout setup history
+  sound_throughout history machine run before rest whole =
       let all : run_of setup (before ++ rest) ≡ Some machine = subst (λ (h : List Event). run_of setup h ≡ Some machine) whole run in
-      let (n, front) = run_front (empty_state setup.namespace) machine before rest all in
-      (n, front, law n (before, front))
+      let (n, front, behind) = laws.fronts (empty_state setup.namespace) machine before rest all in
+      (n, front, laws.sound before n front)
 
-  -- the world's history leads to a state
-  abbrev Runs : World → Type 0
-  Runs world = (machine : MachineState) × (run_of setup world.ledger.history ≡ Some machine)
+  -- the world's history leads to its state
+  abbrev pub Runs : World → Type 0
+  Runs world = run_of setup world.ledger.history ≡ Some world.ledger.machine
+
+  longer : (old : List Event) (m last : MachineState) (new moved : List Event) → run_of setup old ≡ Some m → run_from setup m moved ≡ Some last → new ≡ old ++ moved → run_of setup new ≡ Some last
+  longer old m last new moved runs more is =
+      subst (λ (h : List Event). run_of setup h ≡ Some last) (sym is) (laws.go_on (empty_state setup.namespace) m last old moved runs more)
+
+  runs_closed : (honest : Bool) (old : Ledger) (fault : OpenFault) (new : Ledger) → FailsToReopen setup honest old fault new → run_of setup old.history ≡ Some old.machine → run_of setup new.history ≡ Some new.machine
+  runs_closed honest old JournalFault new fails runs =
+      ⊎_elim (λ same. subst (λ (l : Ledger). run_of setup l.history ≡ Some l.machine) (sym same) runs)
+      (λ behind.
+      ⊎_elim (λ is. subst (λ (l : Ledger). run_of setup l.history ≡ Some l.machine) (sym is) behind.2.found_runs)
+      (λ is. subst (λ (l : Ledger). run_of setup l.history ≡ Some l.machine) (sym is) behind.2.found_runs) behind.2.new_is) fails
+  runs_closed honest old (Damaged number) new fails runs = subst (λ (l : Ledger). run_of setup l.history ≡ Some l.machine) (sym fails.1) runs
+  runs_closed honest old OutOfMemory new fails runs = subst (λ (l : Ledger). run_of setup l.history ≡ Some l.machine) (sym fails) runs
 
   module _ (honest : Bool) where
-    step_runs : (old new : World) (step : Step) (told : Told) → WorldStep setup honest old step told new → Runs old → Runs new
-    step_runs old new (Ask identity command) (Replied reply) is before = (is.1.machine, is.1.runs)
-    step_runs old new (Ask identity command) Unavailable is before = (is.1.machine, is.1.runs)
-    step_runs old new (Ask identity command) NoMemory is before = (is.1.machine, is.1.runs)
-    step_runs old new (Ask identity command) Quiet is before = absurd is
-    step_runs old new (Ask identity command) Reopened is before = absurd is
-    step_runs old new (Ask identity command) (NotOpened fault) is before = absurd is
+    step_runs : (old new : World) (step : Step) (answer : StepAnswer) → WorldStep setup honest old step answer new → Runs old → Runs new
+    step_runs old new (Ask identity command) (Replied reply) is before = longer old.ledger.history old.ledger.machine new.ledger.machine new.ledger.history is.moved before is.call.runs is.history
+    step_runs old new (Ask identity command) Unavailable is before = longer old.ledger.history old.ledger.machine new.ledger.machine new.ledger.history is.0.moved before is.0.call.runs is.0.history
+    step_runs old new (Ask identity command) NoMemory is before = longer old.ledger.history old.ledger.machine new.ledger.machine new.ledger.history is.moved before is.call.runs is.history
     step_runs old new (SetMoment moment) Quiet is before = subst Runs (sym is) before
-    step_runs old new (SetMoment moment) (Replied reply) is before = absurd is
-    step_runs old new (SetMoment moment) Unavailable is before = absurd is
-    step_runs old new (SetMoment moment) Reopened is before = absurd is
-    step_runs old new (SetMoment moment) (NotOpened fault) is before = absurd is
-    step_runs old new (SetMoment moment) NoMemory is before = absurd is
-    step_runs old new Reopen Reopened is before = (is.1.machine, is.1.runs)
-    step_runs old new Reopen (NotOpened fault) is before = (is.1.machine, is.1.runs)
-    step_runs old new Reopen (Replied reply) is before = absurd is
-    step_runs old new Reopen Unavailable is before = absurd is
-    step_runs old new Reopen Quiet is before = absurd is
-    step_runs old new Reopen NoMemory is before = absurd is
+    step_runs old new Reopen Reopened is before = longer is.found.history is.found.machine new.ledger.machine new.ledger.history (opening_events is.found.machine) is.opens.found_runs is.opens.moves is.history
+    step_runs old new Reopen (NotOpened fault) is before = runs_closed honest old.ledger fault new.ledger is.fails before
+    step_runs old new step answer is before = absurd is
 
     -- behind each step the history is sound throughout
-    pub sound_steps : (start : World) (steps : List Taken) → WorldRun setup honest start steps → ((m : MachineState) → IsReached setup m → IsSound setup m)
-        → (machine : MachineState) → run_of setup start.ledger.history ≡ Some machine → AllByRecursion (λ taken. IsSoundThroughout setup taken.world.ledger.history) steps
-    sound_steps start [] run law machine runs = tt
-    sound_steps start (taken ∷ rest) run law machine runs =
-        let (next, leads) = step_runs start taken.world taken.step taken.told run.0 (machine, runs) in
-        (sound_throughout taken.world.ledger.history next leads law, sound_steps taken.world rest run.1 law next leads)
+    pub sound_steps : (start : World) (steps : List Taken) → WorldRun setup honest start steps → Runs start → AllByRecursion (λ taken. IsSoundThroughout setup taken.world.ledger.history) steps
+    sound_steps start [] run runs = tt
+    sound_steps start (taken ∷ rest) run runs =
+        let leads = step_runs start taken.world taken.step taken.answer run.0 runs in
+        (sound_throughout taken.world.ledger.history taken.world.ledger.machine leads, sound_steps taken.world rest run.1 leads)
 
-    -- steps behind steps
-    joined : (start : World) (steps more : List Taken) → WorldRun setup honest start steps → WorldRun setup honest (world_after start steps) more → WorldRun setup honest start (steps ++ more)
-    joined start [] more run further = further
-    joined start (taken ∷ rest) more run further = (run.0, joined taken.world rest more run.1 further)
+module _ (setup : Setup) (honest : Bool) where
+  -- steps behind steps
+  joined : (start : World) (steps more : List Taken) → WorldRun setup honest start steps → WorldRun setup honest (world_after start steps) more → WorldRun setup honest start (steps ++ more)
+  joined start [] more run further = further
+  joined start (taken ∷ rest) more run further = (run.0, joined taken.world rest more run.1 further)
 
-    -- the steps of all lines, and those behind them
-    pub all_steps : (start : World) (run : List Played) (last : List Taken) → ScriptRun setup honest start run → WorldRun setup honest (world_at start run) last → WorldRun setup honest start (steps_of run ++ last)
-    all_steps start [] last lines further = further
-    all_steps start (played ∷ rest) last lines further =
-        subst (λ steps. WorldRun setup honest start steps) (sym (append_assoc played.steps (steps_of rest) last))
-        (joined start played.steps (steps_of rest ++ last) lines.1 (all_steps (world_after start played.steps) rest last lines.2 further))
+  -- the steps of all lines, and those behind them
+  pub all_steps : (start : World) (run : List Played) (last : List Taken) → ScriptRun setup honest start run → WorldRun setup honest (world_at start run) last → WorldRun setup honest start (steps_of run ++ last)
+  all_steps start [] last lines further = further
+  all_steps start (played ∷ rest) last lines further =
+      subst (λ steps. WorldRun setup honest start steps) (sym (append_assoc played.steps (steps_of rest) last))
+      (joined start played.steps (steps_of rest ++ last) lines.1 (all_steps (world_after start played.steps) rest last lines.2 further))

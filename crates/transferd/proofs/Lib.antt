@@ -1,10 +1,10 @@
-pub mod RunLemmas
-pub mod CrashLemmas
-pub mod LineLemmas
-pub mod EndingLemmas
-pub mod HistoryLemmas
-pub mod OpeningLemmas
-pub mod ServingLemmas
-pub mod LentLemmas
-pub mod ExitLemmas
-pub mod StayingLemmas
+mod CrashLemmas
+mod EndingLemmas
+mod ExitLemmas
+mod HistoryLemmas
+mod LentLemmas
+mod MakingLemmas
+mod OpeningLemmas
+mod RunLemmas
+mod ServingLemmas
+mod StayingLemmas

@@ -1,51 +1,76 @@
 -- What comes of an opening and of the run behind it.
-use Rattle.gt_desk.specs.History.{Ledger, Stands, StandsFor, StandsWith}
-use Rattle.gt_disk.specs.Disk.{LeavesOnly, Only}
-use Rattle.gt_machine.specs.MachineState.{MachineState}
-use Rattle.gt_machine.specs.Run.{IsReached, run_of}
-use Rattle.gt_machine.specs.Sound.{IsSound}
+use Rattle.gt_desk.specs.Desk.{Desk}
+use Rattle.gt_desk.specs.History.{Ledger, StandsDuring, StandsWith}
+use Rattle.gt_desk.specs.Opening.{IsNotOpened, IsOpened, opening_events}
+use Rattle.gt_desk.specs.declared.fault.OpenFault.{OpenFault}
+use Rattle.gt_desk.specs.declared.fault.OpenFault.TheVariants.{Damaged, JournalFault, OutOfMemory}
+use Rattle.gt_desk.specs.declared.fault.OpenRefused.{OpenRefused}
+use Rattle.gt_disk.specs.Disk.{DiskWords, IsSameDisk}
+use Rattle.gt_journal.specs.Opening.{OnceSynced}
+use Rattle.gt_machine.specs.MachineState.{empty_state}
+use Rattle.gt_machine.specs.Run.{run_of}
 use Rattle.gt_setup.specs.Setup.{Setup}
 use Rattle.gt_types.specs.declared.event.Event.{Event}
-use Rattle.std.proofs.Common.{Bool, IsTrue, List, None, Option, Some, false, refl, subst, sym, true, ◌++◌, ◌≡◌, ◌≤◌, ℕ}
-use Rattle.transferd.proofs.HistoryLemmas.{all_steps, sound_steps, sound_throughout}
-use Rattle.transferd.specs.Endings.{Bytes}
-use Rattle.transferd.specs.MainTheorem.{Ran, Served}
+use Rattle.std.proofs.Common.{Bool, IsTrue, List, Some, refl, subst, sym, true, ◌++◌, ◌≡◌}
+use Rattle.transferd.proofs.HistoryLemmas.{RunLaws, all_steps, sound_steps, sound_throughout}
+use Rattle.transferd.specs.Crashes.{CrashesKeep, KeepsAcknowledged}
+use Rattle.transferd.specs.Endings.{Stream}
+use Rattle.transferd.specs.Exits.{exit_of_open}
+use Rattle.transferd.specs.MainTheorem.{IsOpenFaultOf, IsUntouched, NotServed, Ran, Served}
 use Rattle.transferd.specs.Run.{steps_of}
-use Rattle.transferd.specs.World.{world_on}
+use Rattle.transferd.specs.World.{Taken, World, WorldRun, world_on}
 use Rattle.transferd.specs.declared.exit.Exit.{Exit}
 
--- a history that leads to the machine's state, the ledger's where the disk is honest
-record Chosen (honest : Bool) (setup : Setup) (history : List Event) (machine : MachineState) : Type 0 where
-  pub chosen : List Event
-  pub leads : run_of setup chosen ≡ Some machine
-  pub same : IsTrue honest → chosen ≡ history
+-- what is said of runs on an honest disk
+abbrev pub StaysInRuns : {D : Type 0} → DiskWords D → Type 0
+StaysInRuns {D} words =
+    (setup : Setup) (disk last : D) (start : World) (steps : List Taken) → WorldRun setup true start steps → CrashesKeep words setup disk start steps last → KeepsAcknowledged words setup disk start steps last
 
-choice : (honest : Bool) (setup : Setup) (history : List Event) (machine : MachineState) → IsReached setup machine → (IsTrue honest → run_of setup history ≡ Some machine) → Chosen honest setup history machine
-choice true setup history machine reached runs = record { chosen = history; leads = runs refl; same = λ t. refl }
-choice false setup history machine reached runs = record { chosen = reached.0; leads = reached.1; same = λ t. let no : ⊥ = cc in absurd no }
+module _ {D : Type 0} (words : DiskWords D) (setup : Setup) (old : D) (desk : Desk D) (is : IsOpened words setup old desk) (kept : IsSameDisk words old desk.disk) (laws : RunLaws setup) where
+  abbrev pub opened : List Event
+  opened = is.found.history ++ opening_events is.found.machine
 
-module _ {D : Type 0} (moment : D → ℕ) (left_since : D → ℕ → List ℕ → Type 0) (seen : D → List ℕ) (may_leave : D → List ℕ → Type 0) (faults_of : D → ℕ) (honest : Bool) where
-  -- an opened desk, and a run from each history that leads to its state
-  pub served : (exit : Exit) (setup : Setup) (old disk new : D) (script out : Bytes) (ledger : Ledger) (machine : MachineState)
-      → ((m : MachineState) → IsReached setup m → IsSound setup m) → IsReached setup machine → (IsTrue honest → run_of setup ledger.history ≡ Some machine)
-      → ledger.doubt ≡ None → (IsTrue honest → StandsFor setup ledger.history (seen old)) → faults_of old ≤ faults_of disk
-      → (IsTrue honest → (synced : D) × LeavesOnly moment left_since old synced (may_leave old) × Only (seen old) (may_leave synced) × LeavesOnly moment left_since synced disk (Stands setup ledger))
-      → ((history : List Event) → run_of setup history ≡ Some machine → (IsTrue honest → history ≡ ledger.history) → Ran moment left_since seen may_leave faults_of honest exit setup (world_on history (faults_of disk)) disk new script out)
-      → Served moment left_since seen may_leave faults_of honest exit setup old new script out
-  served exit setup old disk new script out ledger machine law reached runs clear file later since run =
-      let c = choice honest setup ledger.history machine reached runs in
-      let start = world_on c.chosen (faults_of disk) in
-      let ran = run c.chosen c.leads c.same in
-      record {
-        history = c.chosen;
-        file = λ t. subst (λ (h : List Event). StandsFor setup h (seen old)) (sym (c.same t)) (file t);
-        disk = disk;
-        later = later;
-        opening = λ t.
-            let (synced, before, only, after) = since t in
-            let settled = subst (λ (doubt : Option Event). LeavesOnly moment left_since synced disk (StandsWith setup ledger.history doubt)) clear after in
-            (synced, before, only, subst (λ (h : List Event). LeavesOnly moment left_since synced disk (StandsFor setup h)) (sym (c.same t)) settled);
-        ran = ran;
-        sound = sound_throughout setup c.chosen machine c.leads law;
-        stays_sound = sound_steps setup honest start (steps_of ran.run ++ ran.last) (all_steps setup honest start ran.run ran.last ran.lines ran.rest) law machine c.leads;
-      }
+  abbrev pub start : Ledger
+  start = record desk.ledger { history = opened }
+
+  pub opened_runs : run_of setup opened ≡ Some desk.ledger.machine
+  opened_runs = laws.go_on (empty_state setup.namespace) is.found.machine desk.ledger.machine is.found.history (opening_events is.found.machine) is.opens.found_runs is.opens.moves
+
+  -- an opened desk, and a run from there
+  pub served : StaysInRuns words → (exit : Exit) (new : D) (script out : Stream) → Ran words (words.honest old) exit setup (world_on start (words.faults desk.disk)) desk.disk new script out
+      → Served words (words.honest old) exit setup old new script out
+  served stays exit new script out ran = record {
+    found = is.found;
+    opened = start;
+    file = is.file;
+    opens = record { found_runs = is.opens.found_runs; found_clear = is.opens.found_clear; moves = is.opens.moves; clear = is.opens.clear };
+    history = refl;
+    disk = desk.disk;
+    later = kept.later;
+    opening = λ t. subst (λ (h : List Event). OnceSynced words old desk.disk (λ c. StandsDuring setup is.found (record desk.ledger { history = h }) c)) (is.history t) (is.crashes t);
+    ran = ran;
+    sound = sound_throughout setup laws opened desk.ledger.machine opened_runs;
+    stays_sound = sound_steps setup laws (words.honest old) (world_on start (words.faults desk.disk)) (steps_of ran.run ++ ran.last)
+        (all_steps setup (words.honest old) (world_on start (words.faults desk.disk)) ran.run ran.last ran.lines ran.rest) opened_runs;
+    acknowledged = λ t.
+        let world = world_on start (words.faults desk.disk) in
+        let steps = steps_of ran.run ++ ran.last in
+        stays setup desk.disk new world steps
+        (subst (λ (b : Bool). WorldRun setup b world steps) t (all_steps setup (words.honest old) world ran.run ran.last ran.lines ran.rest)) (ran.crashes t);
+  }
+
+told_as : (fault : OpenFault) → IsOpenFaultOf (exit_of_open fault) fault
+told_as JournalFault = refl
+told_as (Damaged number) = refl
+told_as OutOfMemory = refl
+
+-- a desk that was not opened
+pub not_served : {D : Type 0} (words : DiskWords D) (setup : Setup) (old : D) (refused : OpenRefused D) → IsNotOpened words setup old refused → (exit : Exit) → exit ≡ exit_of_open refused.fault
+    → (script out : Stream) → IsUntouched script out → NotServed words (words.honest old) exit setup old refused.disk script out
+not_served words setup old refused is exit same script out untouched = record {
+  fault = refused.fault;
+  told = subst (λ (e : Exit). IsOpenFaultOf e refused.fault) (sym same) (told_as refused.fault);
+  damaged = is.damaged;
+  crashes = is.crashes;
+  untouched = untouched;
+}

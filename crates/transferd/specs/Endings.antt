@@ -4,88 +4,92 @@ use Rattle.gt_script.specs.Script.{EndsBehind, EndsWithNext, Reads}
 use Rattle.gt_script.specs.declared.line.Line.{Line}
 use Rattle.gt_script.specs.declared.line.Line.TheVariants.{End, Now, Restart, Send}
 use Rattle.gt_setup.specs.Setup.{Setup}
+use Rattle.gt_streams.specs.Streams.{SinkWords, SourceWords}
 use Rattle.std.specs.Prelude.{Bool, IsTrue, List, [], length, ◌++◌, ◌+◌, ◌∷◌, ◌≡◌, ◌⊎◌, ℕ}
 use Rattle.transferd.specs.Output.{IsPart, line_output, out_text}
-use Rattle.transferd.specs.Run.{FailsToReopen, IsEnded, IsOneStep, IsUnended, Makes, Played, lines_of, world_at}
+use Rattle.transferd.specs.Run.{IsEnded, IsOneStep, IsUnended, Makes, Played, ReopenFails, lines_of, world_at}
 use Rattle.transferd.specs.World.{Ask, NoMemory, Taken, World}
 use Rattle.transferd.specs.declared.exit.Exit.{Exit}
-use Rattle.transferd.specs.declared.exit.Exit.TheVariants.{Damaged, Done, JournalFault, OutOfMemory, ScriptRefused, SetupRefused, SinkFault, SourceFault, Usage}
+use Rattle.transferd.specs.declared.exit.Exit.TheVariants.{Damaged, Done, JournalFault, OutOfMemory, ScriptRefused, SinkFault, SourceFault}
 
 -- whether a source or a sink tells its bytes, and these bytes before and after a run: those left in it, or those it took
-pub record Bytes : Type 0 where
+pub record Stream : Type 0 where
   pub told : Bool
   pub before : List ℕ
   pub after : List ℕ
 
+-- what was read of a source
+abbrev pub read_from : {S : Type 0} → SourceWords S → S → S → Stream
+read_from words old new = record { told = words.told old; before = words.left old; after = words.left new }
+
+-- what was written to a sink
+abbrev pub written_to : {K : Type 0} → SinkWords K → K → K → Stream
+written_to words old new = record { told = words.told old; before = words.taken old; after = words.taken new }
+
 -- the bytes that the source gave are these lines, and `beyond` behind them
-pub record Gave (setup : Setup) (lines : List Line) (script : Bytes) (beyond : List ℕ) : Type 0 where
+pub record Gave (setup : Setup) (lines : List Line) (script : Stream) (beyond : List ℕ) : Type 0 where
   pub taken : List ℕ
   pub whole : script.before ≡ taken ++ script.after
   pub reads : Reads setup lines taken beyond
 
 -- the source gave these lines and nothing more
-abbrev pub GaveAll : Setup → List Line → Bytes → Type 0
+abbrev pub GaveAll : Setup → List Line → Stream → Type 0
 GaveAll setup lines script = IsTrue script.told → Gave setup lines script []
 
 -- the sink took all that these lines print
-abbrev pub TookAll : Setup → World → List Played → Bytes → Type 0
+abbrev pub TookAll : Setup → World → List Played → Stream → Type 0
 TookAll setup start run out = IsTrue out.told → out.after ≡ out.before ++ out_text setup start run
 
 -- The source gave these lines and part of a further one, which isn't whole. All that they print was written.
-pub record StopsReading (setup : Setup) (start : World) (run : List Played) (last : List Taken) (script out : Bytes) : Type 0 where
+pub record StopsReading (setup : Setup) (start : World) (run : List Played) (last : List Taken) (script out : Stream) : Type 0 where
   pub unended : IsUnended (lines_of run)
   pub idle : last ≡ []
   pub read : IsTrue script.told → (beyond : List ℕ) × (gave : Gave setup (lines_of run) script beyond) × EndsBehind setup (lines_of run) gave.taken
   pub written : TookAll setup start run out
 
 -- The source gave these lines and nothing behind a further one, for which memory was wanted. All that they print was written.
-pub record GivesUp (setup : Setup) (start : World) (run : List Played) (last : List Taken) (script out : Bytes) : Type 0 where
+pub record GivesUp (setup : Setup) (start : World) (run : List Played) (last : List Taken) (script out : Stream) : Type 0 where
   pub unended : IsUnended (lines_of run)
   pub idle : last ≡ []
   pub read : IsTrue script.told → (beyond : List ℕ) × (gave : Gave setup (lines_of run) script beyond) × EndsWithNext setup (lines_of run) gave.taken
   pub written : TookAll setup start run out
 
 -- nothing was written
-abbrev pub WroteNothing : Bytes → Type 0
+abbrev pub WroteNothing : Stream → Type 0
 WroteNothing out = IsTrue out.told → out.after ≡ out.before
 
 -- the steps of a request whose caller was told that memory was wanted
 abbrev pub WantsMemory : Line → List Taken → Type 0
-WantsMemory (Send identity command) steps = IsOneStep (Ask identity command) (λ told. told ≡ NoMemory) steps
-WantsMemory Restart steps = FailsToReopen OpenOutOfMemory steps
-WantsMemory End steps = ⊥
-WantsMemory (Now moment) steps = ⊥
+WantsMemory (Send identity command) steps = IsOneStep (Ask identity command) (λ answer. answer ≡ NoMemory) steps
+WantsMemory Restart steps = ReopenFails OpenOutOfMemory steps
+WantsMemory line steps = ⊥
 
 -- What a line that was read whole made and wrote before the run stopped in it. A line whose output could not be written made
 -- all its steps; a desk that was not opened again made the line's only step; where memory was wanted the line made none of
 -- its steps, or one that wanted memory, or all of them, and wrote nothing.
-abbrev pub StopsLine : Exit → Setup → World → Line → List Taken → Bytes → Type 0
+abbrev pub StopsLine : Exit → Setup → World → Line → List Taken → Stream → Type 0
 StopsLine SinkFault setup start line steps out = Makes line steps × (IsTrue out.told → IsPart (line_output setup start line steps) out.before out.after)
-StopsLine JournalFault setup start line steps out = (line ≡ Restart) × FailsToReopen OpenJournalFault steps × WroteNothing out
-StopsLine (Damaged number) setup start line steps out = (line ≡ Restart) × FailsToReopen (OpenDamaged number) steps × WroteNothing out
+StopsLine JournalFault setup start line steps out = (line ≡ Restart) × ReopenFails OpenJournalFault steps × WroteNothing out
+StopsLine (Damaged number) setup start line steps out = (line ≡ Restart) × ReopenFails (OpenDamaged number) steps × WroteNothing out
 StopsLine OutOfMemory setup start line steps out = ((steps ≡ []) ⊎ (Makes line steps ⊎ WantsMemory line steps)) × WroteNothing out
-StopsLine Done setup start line steps out = ⊥
-StopsLine Usage setup start line steps out = ⊥
-StopsLine (SetupRefused fault) setup start line steps out = ⊥
-StopsLine (ScriptRefused number) setup start line steps out = ⊥
-StopsLine SourceFault setup start line steps out = ⊥
+StopsLine exit setup start line steps out = ⊥
 
 -- One more line was read, and the run stopped in it. All that the lines before it print was written.
-pub record StopsIn (exit : Exit) (setup : Setup) (start : World) (run : List Played) (last : List Taken) (script out : Bytes) : Type 0 where
+pub record StopsIn (exit : Exit) (setup : Setup) (start : World) (run : List Played) (last : List Taken) (script out : Stream) : Type 0 where
   pub unended : IsUnended (lines_of run)
   pub line : Line
   pub read : GaveAll setup (lines_of run ++ line ∷ []) script
   pub stops : StopsLine exit setup (world_at start run) line last (record out { before = out.before ++ out_text setup start run })
 
 -- The lines ran through the end, and all that they print was written.
-pub record Ends (setup : Setup) (start : World) (run : List Played) (last : List Taken) (script out : Bytes) : Type 0 where
+pub record Ends (setup : Setup) (start : World) (run : List Played) (last : List Taken) (script out : Stream) : Type 0 where
   pub ended : IsEnded (lines_of run)
   pub idle : last ≡ []
   pub read : GaveAll setup (lines_of run) script
   pub written : TookAll setup start run out
 
 -- No line of a script stands behind these, as the bytes of the source tell. All that they print was written.
-pub record Refuses (number : ℕ) (setup : Setup) (start : World) (run : List Played) (last : List Taken) (script out : Bytes) : Type 0 where
+pub record Refuses (number : ℕ) (setup : Setup) (start : World) (run : List Played) (last : List Taken) (script out : Stream) : Type 0 where
   pub count : number ≡ length run + 1
   pub unended : IsUnended (lines_of run)
   pub idle : last ≡ []
@@ -93,13 +97,12 @@ pub record Refuses (number : ℕ) (setup : Setup) (start : World) (run : List Pl
   pub written : TookAll setup start run out
 
 -- how a script's run ends, one row for each exit
-abbrev pub EndsAs : Exit → Setup → World → List Played → List Taken → Bytes → Bytes → Type 0
+abbrev pub EndsAs : Exit → Setup → World → List Played → List Taken → Stream → Stream → Type 0
 EndsAs Done setup start run last script out = Ends setup start run last script out
-EndsAs Usage setup start run last script out = ⊥
-EndsAs (SetupRefused fault) setup start run last script out = ⊥
 EndsAs (ScriptRefused number) setup start run last script out = Refuses number setup start run last script out
 EndsAs SourceFault setup start run last script out = StopsReading setup start run last script out
 EndsAs SinkFault setup start run last script out = StopsIn SinkFault setup start run last script out
 EndsAs JournalFault setup start run last script out = StopsIn JournalFault setup start run last script out
 EndsAs (Damaged number) setup start run last script out = StopsIn (Damaged number) setup start run last script out
 EndsAs OutOfMemory setup start run last script out = GivesUp setup start run last script out ⊎ StopsIn OutOfMemory setup start run last script out
+EndsAs exit setup start run last script out = ⊥

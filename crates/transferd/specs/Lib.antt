@@ -4,7 +4,6 @@ pub mod Exits
 pub mod MainTheorem
 pub mod Opening
 pub mod Output
-pub mod Printing
 pub mod Progress
 pub mod Run
 pub mod Words

@@ -1,24 +1,33 @@
 -- What reading a setup gives.
 use Rattle.gt_setup.specs.Grammar.{setup_of}
 use Rattle.gt_setup.specs.Setup.{Setup}
-use Rattle.std.specs.Prelude.{Err, List, Ok, ◌≡◌, ℕ}
-use Rattle.transferd.specs.Endings.{Bytes}
-use Rattle.transferd.specs.MainTheorem.{ReadsSetup}
+use Rattle.gt_setup.specs.declared.fault.SetupFault.{SetupFault}
+use Rattle.std.specs.Prelude.{Err, IsTrue, List, Ok, ◌++◌, ◌≡◌, ℕ}
+use Rattle.transferd.specs.Endings.{Stream}
+use Rattle.transferd.specs.Exits.{setup_read}
 use Rattle.transferd.specs.declared.exit.Exit.{Exit}
-use Rattle.transferd.specs.declared.exit.Exit.TheVariants.{Damaged, Done, JournalFault, OutOfMemory, ScriptRefused, SetupRefused, SinkFault, SourceFault, Usage}
+use Rattle.transferd.specs.declared.exit.Exit.TheVariants.{OutOfMemory, SetupRefused, SourceFault}
+
+-- of a setup's source these bytes were read
+pub record ReadsSetup (source : Stream) (bytes : List ℕ) : Type 0 where
+  pub whole : IsTrue source.told → source.before ≡ bytes ++ source.after
+  pub all : IsTrue source.told → bytes ≡ setup_read source.before
 
 -- the bytes that were read stand for this setup
-abbrev pub IsOpened : Bytes → Setup → Type 0
-IsOpened source setup = (bytes : List ℕ) × ReadsSetup source bytes × (setup_of bytes ≡ Ok setup)
+pub record IsRead (source : Stream) (setup : Setup) : Type 0 where
+  pub bytes : List ℕ
+  pub read : ReadsSetup source bytes
+  pub stands : setup_of bytes ≡ Ok setup
 
--- the exit where no setup was read: the bytes that were read have this fault, or reading them failed
-abbrev pub IsNotOpened : Bytes → Exit → Type 0
-IsNotOpened source (SetupRefused fault) = (bytes : List ℕ) × ReadsSetup source bytes × (setup_of bytes ≡ Err fault)
-IsNotOpened source SourceFault = Unit {0}
-IsNotOpened source OutOfMemory = Unit {0}
-IsNotOpened source Done = ⊥
-IsNotOpened source Usage = ⊥
-IsNotOpened source (ScriptRefused line) = ⊥
-IsNotOpened source SinkFault = ⊥
-IsNotOpened source JournalFault = ⊥
-IsNotOpened source (Damaged number) = ⊥
+-- the bytes that were read have this fault
+pub record RefusesSetup (fault : SetupFault) (source : Stream) : Type 0 where
+  pub bytes : List ℕ
+  pub read : ReadsSetup source bytes
+  pub stands : setup_of bytes ≡ Err fault
+
+-- the exit where no setup was read: it has a fault, its source failed, or memory was wanted
+abbrev pub IsNotRead : Stream → Exit → Type 0
+IsNotRead source (SetupRefused fault) = RefusesSetup fault source
+IsNotRead source SourceFault = Unit {0}
+IsNotRead source OutOfMemory = Unit {0}
+IsNotRead source exit = ⊥

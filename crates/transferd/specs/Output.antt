@@ -1,8 +1,9 @@
 -- What a run prints.
-use Rattle.gt_machine.specs.Run.{run_of}
 use Rattle.gt_machine.specs.TaskLine.{task_lines}
 use Rattle.gt_machine.specs.declared.line.TaskLine.{TaskLine}
 use Rattle.gt_replies.specs.ReplyText.{reply_status, reply_text}
+use Rattle.gt_desk.specs.declared.fault.DeskFault.{DeskFault}
+use Rattle.gt_desk.specs.declared.fault.DeskFault.TheVariants.{JournalFault as DeskJournalFault, OutOfMemory}
 use Rattle.gt_setup.specs.Setup.{Setup}
 use Rattle.gt_types.specs.declared.code.Status.{Status}
 use Rattle.gt_types.specs.declared.code.Status.TheVariants.{Active, Failed, Succeeded}
@@ -13,10 +14,9 @@ use Rattle.gt_types.specs.declared.reply.Reply.TheVariants.{Refused}
 use Rattle.gt_types.specs.declared.reply.ReplyCode.TheVariants.{JournalFault}
 use Rattle.std.specs.Fmt.{decimal}
 use Rattle.std.specs.List.{flat_map}
-use Rattle.std.specs.Option.{option_map_or}
-use Rattle.std.specs.Prelude.{Bool, List, [], codes, if◌then◌else◌, length, take, ◌++◌, ◌<◌, ◌∷◌, ◌≡◌, ℕ}
+use Rattle.std.specs.Prelude.{Bool, Err, List, Ok, Result, [], codes, if◌then◌else◌, length, take, ◌++◌, ◌<◌, ◌∷◌, ◌≡◌, ℕ}
 use Rattle.transferd.specs.Run.{Played}
-use Rattle.transferd.specs.World.{NoMemory, NotOpened, Quiet, Reopened, Replied, Taken, Told, Unavailable, World, world_after}
+use Rattle.transferd.specs.World.{Replied, StepAnswer, Taken, Unavailable, World, world_after}
 
 -- some bytes at the front of a text were written behind those before, and not all
 pub record IsPart (text before after : List ℕ) : Type 0 where
@@ -42,8 +42,8 @@ numbers_text (number ∷ rest) behind = codes " " ++ (decimal number ++ numbers_
 -- the ten numbers that a task's line shows
 abbrev pub numbers_of : TaskLine → List ℕ
 numbers_of line =
-    line.total ∷ line.pending ∷ line.retrying ∷ line.succeeded ∷ line.expired ∷ line.canceled ∷ line.failed
-    ∷ line.skipped_errors ∷ line.files_transferred ∷ line.bytes_transferred ∷ []
+    line.counters.total ∷ line.counters.pending ∷ line.counters.retrying ∷ line.counters.succeeded ∷ line.counters.expired ∷ line.counters.canceled ∷ line.counters.failed
+    ∷ line.counters.skipped_errors ∷ line.counters.files_transferred ∷ line.counters.bytes_transferred ∷ []
 
 -- a task's line: `task NUMBER TYPE STATUS` and ten numbers
 abbrev pub task_text : TaskLine → List ℕ
@@ -59,9 +59,9 @@ abbrev pub table_text : ℕ → List TaskLine → List ℕ
 table_text events lines = count_text events (length lines) ++ flat_map task_text lines
 
 -- what an end prints: the table of the tasks that the history made
-abbrev pub end_text : Setup → World → List ℕ
-end_text setup world =
-    option_map_or (λ machine. table_text (length world.ledger.history) (task_lines machine)) (run_of setup world.ledger.history) []
+abbrev pub end_text : World → List ℕ
+end_text world =
+    table_text (length world.ledger.history) (task_lines world.ledger.machine)
 
 -- what a reopened desk prints: `restart EVENTS`
 abbrev pub restart_text : ℕ → List ℕ
@@ -73,20 +73,23 @@ reply_line setup reply =
     codes "reply " ++ (decimal (reply_status reply) ++ (codes " " ++ (decimal (length (reply_text setup reply)) ++ 10 ∷ [])))
     ++ reply_text setup reply ++ 10 ∷ []
 
+-- the reply to a request, by the desk's result; none where memory was wanted
+abbrev pub IsReplyTo : Result Reply DeskFault → Reply → Type 0
+IsReplyTo (Ok said) reply = reply ≡ said
+IsReplyTo (Err DeskJournalFault) reply = reply ≡ Refused JournalFault
+IsReplyTo (Err OutOfMemory) reply = ⊥
+
 -- what a request prints, by what it was told
-abbrev pub told_text : Setup → Told → List ℕ
-told_text setup (Replied reply) = reply_line setup reply
-told_text setup Unavailable = reply_line setup (Refused JournalFault)
-told_text setup Quiet = []
-told_text setup Reopened = []
-told_text setup (NotOpened fault) = []
-told_text setup NoMemory = []
+abbrev pub answer_text : Setup → StepAnswer → List ℕ
+answer_text setup (Replied reply) = reply_line setup reply
+answer_text setup Unavailable = reply_line setup (Refused JournalFault)
+answer_text setup answer = []
 
 -- what a line prints, by its steps from the world before it
 abbrev pub line_output : Setup → World → Line → List Taken → List ℕ
-line_output setup start End steps = end_text setup start
+line_output setup start End steps = end_text start
 line_output setup start (Now moment) steps = []
-line_output setup start (Send identity command) steps = flat_map (λ taken. told_text setup taken.told) steps
+line_output setup start (Send identity command) steps = flat_map (λ taken. answer_text setup taken.answer) steps
 line_output setup start Restart steps = restart_text (length (world_after start steps).ledger.history)
 
 -- what a run prints

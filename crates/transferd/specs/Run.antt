@@ -5,38 +5,35 @@ use Rattle.gt_script.specs.declared.line.Line.TheVariants.{End, Now, Restart, Se
 use Rattle.gt_setup.specs.Setup.{Setup}
 use Rattle.std.specs.List.{AllByRecursion, flat_map}
 use Rattle.std.specs.Prelude.{Bool, List, [], map, ◌++◌, ◌∷◌, ◌≡◌, ◌≢◌}
-use Rattle.transferd.specs.World.{Ask, NoMemory, NotOpened, Quiet, Reopen, Reopened, Replied, SetMoment, Step, Taken, Told, Unavailable, World, WorldRun, world_after}
+use Rattle.transferd.specs.World.{Ask, NotOpened, Quiet, Reopen, Reopened, Replied, SetMoment, Step, Taken, StepAnswer, Unavailable, World, WorldRun, world_after}
 
 -- a line that was carried out, and the steps that it made
 pub record Played : Type 0 where
   pub line : Line
   pub steps : List Taken
 
--- one step, and this is said of what it was told
-abbrev pub IsOneStep : Step → (Told → Type 0) → List Taken → Type 0
+-- one step, and this is said of its answer
+abbrev pub IsOneStep : Step → (StepAnswer → Type 0) → List Taken → Type 0
 IsOneStep step is [] = ⊥
-IsOneStep step is (taken ∷ []) = (taken.step ≡ step) × is taken.told
+IsOneStep step is (taken ∷ []) = (taken.step ≡ step) × is taken.answer
 IsOneStep step is (taken ∷ (second ∷ rest)) = ⊥
 
 -- a request has its reply, or was told that the journal failed
-abbrev pub IsAnswer : Told → Type 0
+abbrev pub IsAnswer : StepAnswer → Type 0
 IsAnswer (Replied reply) = Unit {0}
 IsAnswer Unavailable = Unit {0}
-IsAnswer Quiet = ⊥
-IsAnswer Reopened = ⊥
-IsAnswer (NotOpened fault) = ⊥
-IsAnswer NoMemory = ⊥
+IsAnswer answer = ⊥
 
 -- the steps of a whole line
 abbrev pub Makes : Line → List Taken → Type 0
 Makes End steps = steps ≡ []
-Makes (Now moment) steps = IsOneStep (SetMoment moment) (λ told. told ≡ Quiet) steps
+Makes (Now moment) steps = IsOneStep (SetMoment moment) (λ answer. answer ≡ Quiet) steps
 Makes (Send identity command) steps = IsOneStep (Ask identity command) IsAnswer steps
-Makes Restart steps = IsOneStep Reopen (λ told. told ≡ Reopened) steps
+Makes Restart steps = IsOneStep Reopen (λ answer. answer ≡ Reopened) steps
 
 -- the desk was not opened again, for this fault
-abbrev pub FailsToReopen : OpenFault → List Taken → Type 0
-FailsToReopen fault steps = IsOneStep Reopen (λ told. told ≡ NotOpened fault) steps
+abbrev pub ReopenFails : OpenFault → List Taken → Type 0
+ReopenFails fault steps = IsOneStep Reopen (λ answer. answer ≡ NotOpened fault) steps
 
 -- each line made its steps, one line after another
 abbrev pub ScriptRun : Setup → Bool → World → List Played → Type 0

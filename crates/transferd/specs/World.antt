@@ -1,27 +1,28 @@
 -- The world that a run goes through, and what its steps may do.
 use Rattle.gt_causes.specs.Causes.{Rose}
-use Rattle.gt_desk.specs.DeskCall.{DeskCall, IsSettled}
+use Rattle.gt_desk.specs.DeskCall.{DeskCall}
 use Rattle.gt_desk.specs.History.{Ledger}
+use Rattle.gt_desk.specs.Opening.{FailsToReopen, Finds, Opens, opening_events}
+use Rattle.gt_desk.specs.declared.fault.DeskFault.{DeskFault}
 use Rattle.gt_desk.specs.declared.fault.DeskFault.TheVariants.{JournalFault as DeskJournalFault, OutOfMemory as DeskOutOfMemory}
 use Rattle.gt_desk.specs.declared.fault.OpenFault.{OpenFault}
-use Rattle.gt_desk.specs.declared.fault.OpenFault.TheVariants.{Damaged, JournalFault, OutOfMemory}
-use Rattle.gt_machine.specs.MachineState.{MachineState}
-use Rattle.gt_machine.specs.Run.{run_of}
+use Rattle.gt_desk.specs.declared.fault.OpenFault.TheVariants.{JournalFault}
+use Rattle.gt_machine.specs.Answer.{answer_of}
 use Rattle.gt_setup.specs.Setup.{Setup}
 use Rattle.gt_types.specs.declared.command.Command.{Command}
 use Rattle.gt_types.specs.declared.event.Event.{Event}
 use Rattle.gt_types.specs.declared.reply.Reply.{Reply}
-use Rattle.std.specs.Prelude.{Bool, Err, IsTrue, List, None, Ok, Some, [], false, ◌∷◌, ◌≡◌, ◌≤◌, ℕ}
+use Rattle.std.specs.Prelude.{Bool, Err, IsTrue, List, Ok, Result, [], ◌++◌, ◌∷◌, ◌≡◌, ◌≤◌, ℕ}
 
--- the events of the desk with the one in doubt, the present moment in seconds since 1970, and the count of the disk's faults
+-- the ledger of the desk, the present moment in seconds since 1970, and the count of the disk's faults
 pub record World : Type 0 where
   pub ledger : Ledger
   pub moment : ℕ
   pub faults : ℕ
 
--- the world before the first line, on this history
-abbrev pub world_on : List Event → ℕ → World
-world_on history faults = record { ledger = record { history = history; doubt = None }; moment = 0; faults = faults }
+-- the world before the first line
+abbrev pub world_on : Ledger → ℕ → World
+world_on ledger faults = record { ledger = ledger; moment = 0; faults = faults }
 
 -- what a line asks of the world: a request of a caller, another moment, or that the desk is closed and opened again
 pub data Step : Type 0 where
@@ -30,60 +31,55 @@ pub data Step : Type 0 where
   Reopen : Step
 
 -- what a step is told: a reply, that the journal failed, nothing, that the desk is open again or isn't, or that memory was wanted
-pub data Told : Type 0 where
-  Replied : (reply : Reply) → Told
-  Unavailable : Told
-  Quiet : Told
-  Reopened : Told
-  NotOpened : (fault : OpenFault) → Told
-  NoMemory : Told
+pub data StepAnswer : Type 0 where
+  Replied : (reply : Reply) → StepAnswer
+  Unavailable : StepAnswer
+  Quiet : StepAnswer
+  Reopened : StepAnswer
+  NotOpened : (fault : OpenFault) → StepAnswer
+  NoMemory : StepAnswer
 
--- a step of the desk: it leaves the moment, no fault is taken back, and the events lead to a state
-pub record Moves (setup : Setup) (old new : World) : Type 0 where
-  pub moment : new.moment ≡ old.moment
+-- a step of the desk changes the ledger and the count of faults, which doesn't fall, and nothing else
+pub record IsDeskStep (old new : World) : Type 0 where
+  pub frame : new ≡ record old { ledger = new.ledger; faults = new.faults }
   pub later : old.faults ≤ new.faults
-  pub machine : MachineState
-  pub runs : run_of setup new.ledger.history ≡ Some machine
 
--- The desk was closed and opened: nothing is in doubt, and where the disk is honest the doubt was settled and nothing else.
-pub record Reopens (honest : Bool) (old new : Ledger) : Type 0 where
-  pub settles : IsTrue honest → IsSettled old.doubt old.history new.history
-  pub clear : new.doubt ≡ None
+-- a request was made of the desk
+pub record Asks (setup : Setup) (identity : List ℕ) (command : Command) (old : World) (result : Result Reply DeskFault) (new : World) : Type 0 where
+  pub moved : List Event
+  pub call : DeskCall setup (λ m. answer_of setup m identity command old.moment) old.ledger result moved new.ledger
+  pub history : new.ledger.history ≡ old.ledger.history ++ moved
+  pub step : IsDeskStep old new
 
--- the cause of a fault of an opening: the disk's count rose, or the disk wasn't honest
-abbrev pub HasOpenCause : Bool → World → World → OpenFault → Type 0
-HasOpenCause honest old new JournalFault = Rose old.faults new.faults
-HasOpenCause honest old new (Damaged number) = honest ≡ false
-HasOpenCause honest old new OutOfMemory = Unit {0}
+-- The desk was closed and opened: where the disk is honest, the doubt was settled and nothing else, and then opened.
+pub record Reopens (setup : Setup) (honest : Bool) (old new : World) : Type 0 where
+  pub found : Ledger
+  pub finds : IsTrue honest → Finds old.ledger found
+  pub opens : Opens setup found new.ledger
+  pub history : new.ledger.history ≡ found.history ++ opening_events found.machine
+  pub step : IsDeskStep old new
+
+-- The desk was closed and not opened again.
+pub record StaysClosed (setup : Setup) (honest : Bool) (old : World) (fault : OpenFault) (new : World) : Type 0 where
+  pub fails : FailsToReopen setup honest old.ledger fault new.ledger
+  pub step : IsDeskStep old new
+  pub cause : fault ≡ JournalFault → Rose old.faults new.faults
 
 -- from `old` the step may be told so, and lead to `new`
-abbrev pub WorldStep : Setup → Bool → World → Step → Told → World → Type 0
-WorldStep setup honest old (Ask identity command) (Replied reply) new =
-    DeskCall setup identity command old.moment old.ledger (Ok reply) new.ledger × Moves setup old new
-WorldStep setup honest old (Ask identity command) Unavailable new =
-    DeskCall setup identity command old.moment old.ledger (Err DeskJournalFault) new.ledger × Moves setup old new × Rose old.faults new.faults
-WorldStep setup honest old (Ask identity command) NoMemory new =
-    DeskCall setup identity command old.moment old.ledger (Err DeskOutOfMemory) new.ledger × Moves setup old new
-WorldStep setup honest old (Ask identity command) Quiet new = ⊥
-WorldStep setup honest old (Ask identity command) Reopened new = ⊥
-WorldStep setup honest old (Ask identity command) (NotOpened fault) new = ⊥
+abbrev pub WorldStep : Setup → Bool → World → Step → StepAnswer → World → Type 0
+WorldStep setup honest old (Ask identity command) (Replied reply) new = Asks setup identity command old (Ok reply) new
+WorldStep setup honest old (Ask identity command) Unavailable new = Asks setup identity command old (Err DeskJournalFault) new × Rose old.faults new.faults
+WorldStep setup honest old (Ask identity command) NoMemory new = Asks setup identity command old (Err DeskOutOfMemory) new
 WorldStep setup honest old (SetMoment moment) Quiet new = new ≡ record old { moment = moment }
-WorldStep setup honest old (SetMoment moment) (Replied reply) new = ⊥
-WorldStep setup honest old (SetMoment moment) Unavailable new = ⊥
-WorldStep setup honest old (SetMoment moment) Reopened new = ⊥
-WorldStep setup honest old (SetMoment moment) (NotOpened fault) new = ⊥
-WorldStep setup honest old (SetMoment moment) NoMemory new = ⊥
-WorldStep setup honest old Reopen Reopened new = Reopens honest old.ledger new.ledger × Moves setup old new
-WorldStep setup honest old Reopen (NotOpened fault) new = (new.ledger ≡ old.ledger) × Moves setup old new × HasOpenCause honest old new fault
-WorldStep setup honest old Reopen (Replied reply) new = ⊥
-WorldStep setup honest old Reopen Unavailable new = ⊥
-WorldStep setup honest old Reopen Quiet new = ⊥
-WorldStep setup honest old Reopen NoMemory new = ⊥
+WorldStep setup honest old Reopen Reopened new = Reopens setup honest old new
+WorldStep setup honest old Reopen (NotOpened fault) new = StaysClosed setup honest old fault new
+-- no other answer is given
+WorldStep setup honest old step answer new = ⊥
 
 -- a step, what it was told, and the world after it
 pub record Taken : Type 0 where
   pub step : Step
-  pub told : Told
+  pub answer : StepAnswer
   pub world : World
 
 -- the world after these steps
@@ -94,4 +90,4 @@ world_after start (taken ∷ rest) = world_after taken.world rest
 -- one step after another
 abbrev pub WorldRun : Setup → Bool → World → List Taken → Type 0
 WorldRun setup honest start [] = Unit {0}
-WorldRun setup honest start (taken ∷ rest) = WorldStep setup honest start taken.step taken.told taken.world × WorldRun setup honest taken.world rest
+WorldRun setup honest start (taken ∷ rest) = WorldStep setup honest start taken.step taken.answer taken.world × WorldRun setup honest taken.world rest

@@ -1,6 +1,6 @@
 ghost use Rattle.std.specs.Prelude.{◌≡◌};
 ghost use Rattle.transferd.specs.Exits.{status_of};
-ghost use Rattle.transferd.specs.Printing.{exit_of_open};
+ghost use Rattle.transferd.specs.Exits.{exit_of_open};
 
 use gt_desk::OpenFault;
 use gt_setup::SetupFault;

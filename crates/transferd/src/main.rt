@@ -5,15 +5,16 @@
 //! What is here makes the real objects, calls it, says what went wrong, and ends with its status.
 #![tactic(auto)]
 
-mod ended;
 mod exit;
 mod laws;
+mod making;
 mod opening;
 mod printing;
 mod real;
 mod running;
 mod script;
 mod serving;
+mod session;
 #[cfg(test)]
 mod tests;
 mod top;

@@ -1,7 +1,8 @@
-ghost use Rattle.gt_causes.specs.Causes.{Rose};
-ghost use Rattle.std.specs.Prelude.{IfErr, IfOk, IsErrOf, ◌≡◌, ◌≤◌, ◌⊎◌};
-ghost use Rattle.transferd.specs.Opening.{IsNotOpened, IsOpened};
-ghost use Rattle.transferd.specs.MainTheorem.{ReadsSetup};
+ghost use Rattle.gt_causes.specs.Causes.{HasFailed};
+ghost use Rattle.gt_streams.specs.Streams.{IsSameSource};
+ghost use Rattle.std.specs.Prelude.{IfErr, IfOk, IsErrOf, ◌≡◌, ◌⊎◌};
+ghost use Rattle.transferd.specs.Endings.{read_from};
+ghost use Rattle.transferd.specs.Opening.{IsNotRead, IsRead, ReadsSetup};
 ghost use Rattle.transferd.specs.declared.exit.Exit.TheVariants.{OutOfMemory, SourceFault};
 
 use crate::exit::Exit;
@@ -15,12 +16,12 @@ const SETUP_BYTES: u64 = 1_048_577;
 /// Reads a setup to its end, or until it is known to be too long.
 ///
 /// `SetupRefused` comes exactly where the bytes that were read stand for none.
-pub fn open_setup<S: Source>(alloc: Global, source: &mut S) -> Result<Setup, Exit>
-    ensures opened { IfOk result (IsOpened (record { told = S.is_told source.old; before = S.left source.old; after = S.left source.new })) }
-    ensures not_opened { IfErr result (IsNotOpened (record { told = S.is_told source.old; before = S.left source.old; after = S.left source.new })) }
-    ensures cause { IsErrOf result Exit.SourceFault → Rose (S.faults_of source.old) (S.faults_of source.new) }
-    ensures later { S.faults_of source.old ≤ S.faults_of source.new }
-    ensures told { S.is_told source.new ≡ S.is_told source.old }
+pub fn read_setup<S: Source>(alloc: Global, source: &mut S) -> Result<Setup, Exit>
+    ensures ok { IfOk result (IsRead (read_from S.words source.old source.new)) }
+    ensures err { IfErr result (IsNotRead (read_from S.words source.old source.new)) }
+    ensures cause { IsErrOf result Exit.SourceFault
+        → HasFailed S.words.faults source.old source.new }
+    ensures same { IsSameSource S.words source.old source.new }
 {
     let bytes = read_bytes(alloc, source)?;
     match Setup::read(alloc, &bytes) {
@@ -31,11 +32,12 @@ pub fn open_setup<S: Source>(alloc: Global, source: &mut S) -> Result<Setup, Exi
 }
 
 fn read_bytes<S: Source>(alloc: Global, source: &mut S) -> Result<Vec<u8>, Exit>
-    ensures read { IfOk result (λ bytes. ReadsSetup (record { told = S.is_told source.old; before = S.left source.old; after = S.left source.new }) bytes.items) }
+    ensures read { IfOk result (λ bytes. ReadsSetup
+        (read_from S.words source.old source.new) bytes.items) }
     ensures exit { IfErr result (λ exit. (exit ≡ SourceFault) ⊎ (exit ≡ OutOfMemory)) }
-    ensures cause { IsErrOf result Exit.SourceFault → Rose (S.faults_of source.old) (S.faults_of source.new) }
-    ensures later { S.faults_of source.old ≤ S.faults_of source.new }
-    ensures told { S.is_told source.new ≡ S.is_told source.old }
+    ensures cause { IsErrOf result Exit.SourceFault
+        → HasFailed S.words.faults source.old source.new }
+    ensures same { IsSameSource S.words source.old source.new }
 {
     let mut bytes = Vec::new(alloc);
     match read_exactly(source, SETUP_BYTES, &mut bytes) {

@@ -1,5 +1,8 @@
 // Readers and writers of the system as sources and sinks: standard input and output, and files. They tell nothing of their bytes.
-use gt_streams::{Failed, Sink, Source};
+ghost use Rattle.gt_streams.specs.Streams.{untold_sink, untold_source};
+
+use gt_causes::Failed;
+use gt_streams::{Sink, Source};
 use std::io::{ErrorKind, Read, Write};
 
 /// A reader, with its count of faults.
@@ -16,7 +19,7 @@ impl<R: Read + Drop> ReaderSource<R> {
 }
 
 impl<R: Read + Drop> Source for ReaderSource<R> {
-    ghost faults_of = { λ s. s.faults };
+    ghost words = { untold_source (λ s. s.faults) };
 
     fn faults(&self) -> u64 {
         self.faults
@@ -52,7 +55,7 @@ impl<W: Write + Drop> WriterSink<W> {
 }
 
 impl<W: Write + Drop> Sink for WriterSink<W> {
-    ghost faults_of = { λ s. s.faults };
+    ghost words = { untold_sink (λ s. s.faults) };
 
     fn faults(&self) -> u64 {
         self.faults

@@ -1,15 +1,17 @@
+ghost use Rattle.gt_disk.specs.Disk.{IsSameDisk};
 ghost use Rattle.gt_machine.specs.Run.{run_of};
 ghost use Rattle.gt_script.specs.declared.line.Line.TheVariants.{End};
+ghost use Rattle.gt_streams.specs.Streams.{IsSameSink, IsSameSource};
 ghost use Rattle.gt_types.specs.declared.event.Event.{Event};
 ghost use Rattle.std.specs.Prelude.{IsTrue, List, None, Some, ◌<◌, ◌^◌, ◌↔◌, ◌≡◌};
-ghost use Rattle.transferd.specs.Exits.{HasScriptCauses};
+ghost use Rattle.transferd.specs.Endings.{read_from, written_to};
+ghost use Rattle.transferd.specs.Exits.{HasScriptCauses, exit_of_read, faults_of};
 ghost use Rattle.transferd.specs.MainTheorem.{Ran};
-ghost use Rattle.transferd.specs.Printing.{exit_of_read};
 ghost use Rattle.transferd.specs.World.{world_on};
 
-use crate::ended::Ended;
 use crate::exit::Exit;
-use crate::running::{disk_of, run_line};
+use crate::running::run_line;
+use crate::session::{Ended, Session, stop};
 use gt_desk::Desk;
 use gt_disk::Disk;
 use gt_script::{Line, SCRIPT_LIMIT, ScriptFault, read_script_line};
@@ -36,54 +38,47 @@ fn is_last(line: Line) -> bool
     line.is_end()
 }
 
-/// Runs the lines of a script up to its end on a desk in which nothing is in doubt. Each is carried out before the next is
-/// read.
+/// Runs the lines of a script up to its end on a desk. Each is carried out before the next is read.
 pub fn run_script<T: Source, K: Sink, D: Disk>(
     alloc: Global,
     desk: Desk<D>,
     script: &mut T,
     out: &mut K,
 ) -> Ended<D>
-    requires clear { desk.ledger.doubt ≡ None }
-    ensures ran { (history : List Event) → run_of desk.setup history ≡ Some desk.machine → (IsTrue (D.is_honest desk.disk) → history ≡ desk.ledger.history)
-        → Ran D.moment D.left_since D.seen D.may_leave D.faults_of (D.is_honest desk.disk) result.exit desk.setup (world_on history (D.faults_of desk.disk)) desk.disk result.disk
-        (record { told = T.is_told script.old; before = T.left script.old; after = T.left script.new })
-        (record { told = K.is_told out.old; before = K.taken out.old; after = K.taken out.new }) }
-    ensures causes { HasScriptCauses result.exit (T.faults_of script.old) (T.faults_of script.new) (K.faults_of out.old) (K.faults_of out.new) (D.faults_of desk.disk) (D.faults_of result.disk) }
-    ensures loan { D.loan result.disk ≡ D.loan desk.disk }
-    ensures told_in { T.is_told script.new ≡ T.is_told script.old }
-    ensures told_out { K.is_told out.new ≡ K.is_told out.old }
+    ensures ran { (history : List Event) → run_of desk.setup history ≡ Some desk.ledger.machine
+        → (IsTrue (D.words.honest desk.disk) → history ≡ desk.ledger.history)
+        → Ran D.words (D.words.honest desk.disk) result.exit desk.setup
+        (world_on (record desk.ledger { history = history })
+        (D.words.faults desk.disk)) desk.disk result.disk
+        (read_from T.words script.old script.new) (written_to K.words out.old out.new) }
+    ensures causes { HasScriptCauses result.exit
+        (faults_of T.words script.old K.words out.old D.words desk.disk)
+        (faults_of T.words script.new K.words out.new D.words result.disk) }
+    ensures same { IsSameDisk D.words desk.disk result.disk }
+    ensures same_script { IsSameSource T.words script.old script.new }
+    ensures same_out { IsSameSink K.words out.old out.new }
 {
-    // For the proof alone: a crash before the first line leaves what stands for the ledger.
+    // For the proof: a crash before the first line leaves what stands for the ledger.
     let _ = desk.state();
-    let mut desk = desk;
-    let mut now = Moment::zero();
+    let mut session = Session {
+        desk,
+        now: Moment::zero(),
+    };
     let mut taken = 0;
     let mut ran = 0;
     while taken < SCRIPT_LIMIT {
-        let line = match read_script_line(alloc, desk.setup(), script, &mut taken) {
+        let line = match read_script_line(alloc, session.desk.setup(), script, &mut taken) {
             Ok(line) => line,
-            Err(fault) => {
-                return Ended {
-                    exit: exit_of_reading(fault, ran),
-                    disk: disk_of(desk),
-                };
-            }
+            Err(fault) => return stop(session.desk, exit_of_reading(fault, ran)),
         };
-        match run_line(alloc, desk, &mut now, &line, out) {
-            Ok(next) => desk = next,
-            Err(ended) => return ended,
+        match run_line(alloc, session, &line, out) {
+            Ok(next) => session = next,
+            Err(stopped) => return stopped,
         }
         if is_last(line) {
-            return Ended {
-                exit: Exit::Done,
-                disk: disk_of(desk),
-            };
+            return stop(session.desk, Exit::Done);
         }
         ran += 1;
     }
-    Ended {
-        exit: Exit::ScriptRefused { line: ran + 1 },
-        disk: disk_of(desk),
-    }
+    stop(session.desk, Exit::ScriptRefused { line: ran + 1 })
 }

@@ -1,18 +1,21 @@
-ghost use Rattle.std.specs.Prelude.{◌≡◌};
-ghost use Rattle.transferd.specs.Exits.{HasScriptCauses};
+ghost use Rattle.gt_disk.specs.Disk.{IsSameDisk};
+ghost use Rattle.gt_streams.specs.Streams.{IsSameSink, IsSameSource};
+ghost use Rattle.transferd.specs.Endings.{read_from, written_to};
+ghost use Rattle.transferd.specs.Exits.{HasScriptCauses, faults_of};
 ghost use Rattle.transferd.specs.MainTheorem.{DeskTheorem};
 
-use crate::ended::Ended;
 use crate::exit::Exit;
+use crate::laws::acknowledged_events_stay_in_a_run;
 use crate::script::run_script;
+use crate::session::Ended;
 use gt_desk::Desk;
 use gt_disk::Disk;
-use gt_machine::reached_states_are_sound;
+use gt_machine::{runs_are_sound, runs_go_on, runs_have_fronts};
 use gt_setup::Setup;
 use gt_streams::{Sink, Source};
 use std::alloc::Global;
 
-/// Opens the desk on the disk of its journal, and runs the lines of a script on it.
+/// Opens the desk on the disk of its journal, by `Desk::open`, and runs the lines of a script on it.
 pub fn serve_script<T: Source, K: Sink, D: Disk>(
     alloc: Global,
     setup: Setup,
@@ -20,18 +23,22 @@ pub fn serve_script<T: Source, K: Sink, D: Disk>(
     script: &mut T,
     out: &mut K,
 ) -> Ended<D>
-    ensures theorem { DeskTheorem D.moment D.left_since D.seen D.may_leave D.faults_of (D.is_honest disk) result.exit setup disk result.disk
-        (record { told = T.is_told script.old; before = T.left script.old; after = T.left script.new })
-        (record { told = K.is_told out.old; before = K.taken out.old; after = K.taken out.new }) }
-    ensures causes { HasScriptCauses result.exit (T.faults_of script.old) (T.faults_of script.new) (K.faults_of out.old) (K.faults_of out.new) (D.faults_of disk) (D.faults_of result.disk) }
-    ensures loan { D.loan result.disk ≡ D.loan disk }
-    ensures told_in { T.is_told script.new ≡ T.is_told script.old }
-    ensures told_out { K.is_told out.new ≡ K.is_told out.old }
+    ensures theorem { DeskTheorem D.words (D.words.honest disk) result.exit setup disk result.disk
+        (read_from T.words script.old script.new) (written_to K.words out.old out.new) }
+    ensures causes { HasScriptCauses result.exit
+        (faults_of T.words script.old K.words out.old D.words disk)
+        (faults_of T.words script.new K.words out.new D.words result.disk) }
+    ensures same { IsSameDisk D.words disk result.disk }
+    ensures same_script { IsSameSource T.words script.old script.new }
+    ensures same_out { IsSameSink K.words out.old out.new }
 {
     match Desk::open(alloc, setup, disk) {
         Ok(desk) => {
-            reached_states_are_sound();
-            let _ = desk.state();
+            // For the proof: each history of the run leads through sound states, and nothing acknowledged is lost.
+            runs_are_sound();
+            runs_go_on();
+            runs_have_fronts();
+            acknowledged_events_stay_in_a_run::<D>();
             run_script(alloc, desk, script, out)
         }
         Err(refused) => Ended {

@@ -1,15 +1,17 @@
+ghost use Rattle.gt_streams.specs.Streams.{IsSameSink, IsSameSource};
 ghost use Rattle.std.specs.Prelude.{IsTrue, false, true, ◌↔◌, ◌≡◌, ◌⊎◌};
-ghost use Rattle.transferd.specs.Exits.{ExitFor, HasCauses, IsUnlessFault, NoneRose};
+ghost use Rattle.transferd.specs.Endings.{read_from, written_to};
+ghost use Rattle.transferd.specs.Exits.{ExitFor, HasCauses, IsUnlessFault, NoneRose, faults_of};
 ghost use Rattle.transferd.specs.MainTheorem.{MainTheorem};
 ghost use Rattle.transferd.specs.Words.{is_script_form, texts_of};
 ghost use Rattle.transferd.specs.declared.exit.Exit.{Exit};
 ghost use Rattle.transferd.specs.declared.exit.Exit.TheVariants.{OutOfMemory, Usage};
 
-use crate::ended::Ended;
 use crate::exit::Exit;
 use crate::laws::one_exit_where_nothing_fails;
-use crate::opening::open_setup;
+use crate::opening::read_setup;
 use crate::serving::serve_script;
+use crate::session::Ended;
 use crate::words::are_script_words;
 use gt_disk::Disk;
 use gt_streams::{Sink, Source};
@@ -30,36 +32,45 @@ pub fn script_top<S: Source, T: Source, K: Sink, D: Disk>(
     disk: &mut D,
 ) -> Exit
     // The main theorem.
-    ensures machine { is_script_form (texts_of words.now) ≡ true → MainTheorem D.moment D.left_since D.seen D.may_leave D.faults_of (D.is_honest disk.old) result
-        (record { told = S.is_told setup.old; before = S.left setup.old; after = S.left setup.new })
-        disk.old disk.new
-        (record { told = T.is_told script.old; before = T.left script.old; after = T.left script.new })
-        (record { told = K.is_told out.old; before = K.taken out.old; after = K.taken out.new }) }
+    ensures machine { is_script_form (texts_of words.now) ≡ true
+        → MainTheorem D.words (D.words.honest disk.old) result
+        (read_from S.words setup.old setup.new)
+        disk.old disk.new (read_from T.words script.old script.new) (written_to K.words out.old out.new) }
 
-    // Which exit comes, and that only a fault of a device or want of memory takes its place.
-    ensures exact { is_script_form (texts_of words.now) ≡ true → IsTrue (S.is_told setup.old) → IsTrue (T.is_told script.old) → IsTrue (D.is_honest disk.old)
-        → (exit : Exit) → ExitFor (S.left setup.old) (T.left script.old) (D.seen disk.old) exit → IsUnlessFault exit result }
-    // Where no device fails, that exit comes, or memory was wanted.
-    ensures complete { is_script_form (texts_of words.now) ≡ true → IsTrue (S.is_told setup.old) → IsTrue (T.is_told script.old) → IsTrue (D.is_honest disk.old)
-        → NoneRose (S.faults_of setup.old) (S.faults_of setup.new) (T.faults_of script.old) (T.faults_of script.new) (K.faults_of out.old) (K.faults_of out.new) (D.faults_of disk.old) (D.faults_of disk.new)
-        → (exit : Exit) → ExitFor (S.left setup.old) (T.left script.old) (D.seen disk.old) exit → (result ≡ exit) ⊎ (result ≡ OutOfMemory) }
-    ensures causes { HasCauses result (S.faults_of setup.old) (S.faults_of setup.new) (T.faults_of script.old) (T.faults_of script.new) (K.faults_of out.old) (K.faults_of out.new) (D.faults_of disk.old) (D.faults_of disk.new) }
+    // Which exit comes, and that only a fault of a device or want of memory takes its place; where no device fails, that
+    // exit comes, or memory was wanted.
+    ensures exact { is_script_form (texts_of words.now) ≡ true
+        → IsTrue (S.words.told setup.old) → IsTrue (T.words.told script.old)
+        → IsTrue (D.words.honest disk.old)
+        → (exit : Exit) → ExitFor (S.words.left setup.old) (T.words.left script.old)
+        (D.words.seen disk.old) exit
+        → IsUnlessFault exit result
+        × (NoneRose (S.words.faults setup.old) (S.words.faults setup.new)
+        (faults_of T.words script.old K.words out.old D.words disk.old)
+        (faults_of T.words script.new K.words out.new D.words disk.new)
+        → (result ≡ exit) ⊎ (result ≡ OutOfMemory)) }
+    ensures causes { HasCauses result (S.words.faults setup.old) (S.words.faults setup.new)
+        (faults_of T.words script.old K.words out.old D.words disk.old)
+        (faults_of T.words script.new K.words out.new D.words disk.new) }
 
     // Words in another form, of which nothing is read and nothing written.
     ensures usage { (result ≡ Usage) ↔ (is_script_form (texts_of words.now) ≡ false) }
-    ensures untouched { result ≡ Usage → (setup.new ≡ setup.old) × (script.new ≡ script.old) × (out.new ≡ out.old) × (disk.new ≡ disk.old) }
+    ensures untouched { result ≡ Usage
+        → (setup.new ≡ setup.old) × (script.new ≡ script.old) × (out.new ≡ out.old)
+        × (disk.new ≡ disk.old) }
 
-    ensures told_setup { S.is_told setup.new ≡ S.is_told setup.old }
-    ensures told_in { T.is_told script.new ≡ T.is_told script.old }
-    ensures told_out { K.is_told out.new ≡ K.is_told out.old }
+    // The disk that comes back is as honest as the one that was lent; so with the others.
+    ensures same { IsSameSource S.words setup.old setup.new
+        × IsSameSource T.words script.old script.new
+        × IsSameSink K.words out.old out.new × (D.words.honest disk.new ≡ D.words.honest disk.old) }
 {
     if !are_script_words(words) {
         return Exit::Usage;
     }
     one_exit_where_nothing_fails();
-    match open_setup(alloc, setup) {
+    match read_setup(alloc, setup) {
         Ok(opened) => {
-            // For the proof alone: a setup has fewer than 2^32 collections.
+            // For the proof: a setup has fewer than 2^32 collections.
             let _ = opened.collections();
             let ended = serve_script(alloc, opened, &mut *disk, script, out);
             let Ended { exit, disk: _disk } = ended;

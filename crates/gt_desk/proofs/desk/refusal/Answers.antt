@@ -1,8 +1,8 @@
 use Rattle.std.proofs.Common.{inr, subst, rules, ◌≡◌}
 use Rattle.gt_desk.proofs.Damages.{damaged_as}
 use Rattle.gt_journal.specs.Opening as journal
-use Rattle.gt_journal.specs.Opening.{lists}
-use Rattle.gt_desk.specs.Opening.{IsBadAs}
+use Rattle.gt_journal.specs.Reading.{lists}
+use Rattle.gt_desk.specs.Replay.{IsBadAs}
 use Rattle.gt_desk.proofs.desk.refusal.Goals as goal
 
 pub returns-in-Damaged-clause-damaged : goal.returns-in-Damaged-clause-damaged

@@ -1,6 +1,6 @@
 use Rattle.std.proofs.Common.{rules, arith, Err, ap, sym, ◌<◌, ◌≡◌, ◌∙◌, [], length, get_or}
 use Rattle.gt_desk.proofs.Damages.{bad_at, body_at, many_lists, replays_more}
-use Rattle.gt_journal.specs.Opening.{lists}
+use Rattle.gt_journal.specs.Reading.{lists}
 use Rattle.gt_desk.proofs.replaying.replay.Goals as goal
 
 pub returns-in-Err-Body-clause-bad : goal.returns-in-Err-Body-clause-bad

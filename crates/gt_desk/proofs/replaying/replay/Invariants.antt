@@ -1,6 +1,6 @@
 use Rattle.std.proofs.Common.{◌≤◌, take}
-use Rattle.gt_desk.specs.Opening.{Replays}
-use Rattle.gt_journal.specs.Opening.{lists}
+use Rattle.gt_desk.specs.Replay.{Replays}
+use Rattle.gt_journal.specs.Reading.{lists}
 use Rattle.gt_machine.specs.Run.{IsReached}
 use Rattle.gt_desk.proofs.replaying.replay.Given as goal
 

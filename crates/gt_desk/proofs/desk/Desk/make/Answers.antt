@@ -1,207 +1,334 @@
-use Rattle.std.proofs.Common.{rules, ◌≡◌, ◌∙◌, ◌⊎◌, ◌++◌, ◌∷◌, [], None, Some, true, false, List, ℕ, ap, subst, sym}
-use Rattle.std.specs.Prelude.{IfSome, IsErr, IsSome, is_some}
-use Rattle.gt_desk.proofs.Histories.{events_more}
-use Rattle.gt_desk.proofs.Standing.{agrees_more, agrees_same, during_doubt, during_kept, during_none, found, is_none_of, is_there, no_change, reached_more, stands_now}
-use Rattle.gt_desk.specs.Desk.{Agrees, IsPending, event_in, events_of}
-use Rattle.gt_desk.specs.History.{Stands, StandsWith}
-use Rattle.gt_disk.proofs.Moments.{weaker}
+use Rattle.std.proofs.Common.{rules, ◌∙◌, ◌≡◌, ◌∷◌, ◌++◌, [], Err, List, None, Ok, Some, ap, false, inl, inr, ℕ, refl, subst, sym, true}
+use Rattle.std.specs.Prelude.{IsErr, IsSome, is_some}
+use Rattle.gt_desk.proofs.DeskCalls.{idle_recorded}
+use Rattle.gt_desk.proofs.JournalLemmas.{added_consistent, added_history, added_recorded, counted, doubted_consistent, during_event, during_nothing, is_doubted, is_unwritten, not_recorded, prepared_consistent, prepared_view, still_consistent}
+use Rattle.gt_desk.proofs.Standing.{found, no_change, stands_now}
+use Rattle.gt_desk.specs.Desk.{HasRecorded, IsPending, desk_of, event_in, events_of}
+use Rattle.gt_desk.specs.History.{Stands, StandsDuring, StandsFor, StandsWith}
+use Rattle.gt_desk.specs.declared.fault.DeskFault.TheVariants.{JournalFault, OutOfMemory}
 use Rattle.gt_disk.specs.Disk.{LeavesOnly}
-use Rattle.gt_journal.specs.JournalText.{IsJournalText}
-use Rattle.gt_journal.specs.Kept.{IsTextWithDoubt}
+use Rattle.gt_disk.specs.Moments.{started}
+use Rattle.gt_journal.specs.Calls.{IsAdded, StaysWith}
+use Rattle.gt_journal.specs.JournalText.{IsTextWithDoubt}
 use Rattle.gt_machine.specs.Step.{step_of}
+use Rattle.gt_machine.specs.declared.decision.Decision.TheVariants.{Do}
 use Rattle.gt_records.specs.RecordText.{record_text}
-use Rattle.gt_types.specs.declared.event.Event.{Event}
 use Rattle.gt_desk.proofs.desk.Desk.make.Goals as goal
 
 pub invariant_of-self-in-Ok-append : goal.invariant_of-self-in-Ok-append
 invariant_of-self-in-Ok-append g c =
-    let d = g.D.Disk in
+    let w = g.D.Disk.words in
     let i = c.self.inside in
     let j = i.journal in
     let p = c.prepare-prepared.new in
     let a = c.append.new.self in
     let event = c.args.event in
     let change = c.in-Ok.change in
-    let was = c.self.invariant in
     let none : i.doubt ≡ None = no_change i.doubt (ap (λ v. v.ledger.doubt) c.self.view_is ∙ c.requires.clear) in
+    let was = prepared_consistent w i.setup i.state p.state i.doubt j p.journal c.prepare-prepared.ensures.machine c.prepare-prepared.ensures.journal none c.self.invariant in
+    let view = prepared_view w i.setup i.state p.state i.doubt j p.journal c.prepare-prepared.ensures.machine c.prepare-prepared.ensures.journal ∙ c.self.view_is in
+    let steps = subst (λ v. IsSome (step_of v.setup v.ledger.machine event)) (sym c.self.view_is) c.requires.step in
+    let pend : IsPending i.setup p.state change = c.in-Ok.ensures.pending i.setup steps in
+    let same : change.event ≡ event = c.in-Ok.ensures.event in
     let text : c.deref.result.now ≡ record_text event = search rules in
-    let same : change.event ≡ event = search rules in
-    let pend : IsPending i.setup p.state change = search rules in
-    let m = c.commit.new.self.machine in
-    let step : step_of i.setup i.state.machine event ≡ Some m =
-    subst (λ e. step_of i.setup i.state.machine e ≡ Some m) same (subst (λ s. step_of i.setup s change.event ≡ Some m) c.prepare-prepared.ensures.machine (pend.step ∙ c.commit.ensures)) in
-    record {
-      reached = reached_more i.setup i.state.machine m event was.reached step;
-      pending = subst (λ o. IfSome o (IsPending i.setup c.commit.new.self)) (sym none) tt;
-      clear = λ _. c.in-Ok-append.ensures.settled;
-      told = λ there.
-          let here_p : d.is_honest p.journal.disk ≡ true = sym c.append.ensures.honest ∙ there in
-          let here : d.is_honest j.disk ≡ true = sym (ap d.is_honest c.prepare-prepared.ensures.disk) ∙ here_p in
-          let agrees = was.told here in
-          let more : a.bodies ≡ j.bodies ++ record_text event ∷ [] =
-          c.in-Ok-append.ensures.ok here_p ∙ ap (λ (bs : List (List ℕ)). bs ++ c.deref.result.now ∷ []) c.prepare-prepared.ensures.bodies ∙ ap (λ (b : List ℕ). j.bodies ++ b ∷ []) text in
-          (subst (λ o. Agrees i.setup m (event_in o) (d.may_leave a.disk) a.bodies a.doubt) (sym none)
-          (agrees_more i.setup i.state.machine (event_in i.doubt) (d.may_leave j.disk) (d.may_leave a.disk) j.bodies a.bodies j.doubt a.doubt agrees (c.append.ensures.later here_p)
-          event m c.requires.recordable step more c.in-Ok-append.ensures.settled));
-    }
+    let next = c.commit.new.self in
+    let step : step_of i.setup p.state.machine event ≡ Some next.machine = subst (λ e. step_of i.setup p.state.machine e ≡ Some next.machine) same (c.commit.ensures i.setup pend.planned) in
+    let added = subst (λ b. IsAdded w p.journal b a) text c.in-Ok-append.ensures.ok in
+    let more = counted i.setup p.state.machine next.machine event (c.runs_are_sound.ensures i.setup) was.reached step in
+    added_consistent w i.setup p.state i.doubt p.journal a was c.append.ensures.same c.append.ensures.images event c.requires.recordable added next step more i.doubt none
 
 pub returns-in-Ok-append-clause-made : goal.returns-in-Ok-append-clause-made
-returns-in-Ok-append-clause-made g c honest =
-    let d = g.D.Disk in
+returns-in-Ok-append-clause-made g c =
+    let w = g.D.Disk.words in
     let i = c.self.inside in
     let j = i.journal in
     let p = c.prepare-prepared.new in
     let a = c.append.new.self in
     let event = c.args.event in
     let change = c.in-Ok.change in
-    let was = c.self.invariant in
     let none : i.doubt ≡ None = no_change i.doubt (ap (λ v. v.ledger.doubt) c.self.view_is ∙ c.requires.clear) in
+    let was = prepared_consistent w i.setup i.state p.state i.doubt j p.journal c.prepare-prepared.ensures.machine c.prepare-prepared.ensures.journal none c.self.invariant in
+    let view = prepared_view w i.setup i.state p.state i.doubt j p.journal c.prepare-prepared.ensures.machine c.prepare-prepared.ensures.journal ∙ c.self.view_is in
+    let steps = subst (λ v. IsSome (step_of v.setup v.ledger.machine event)) (sym c.self.view_is) c.requires.step in
+    let pend : IsPending i.setup p.state change = c.in-Ok.ensures.pending i.setup steps in
+    let same : change.event ≡ event = c.in-Ok.ensures.event in
     let text : c.deref.result.now ≡ record_text event = search rules in
-    let same : change.event ≡ event = search rules in
-    let pend : IsPending i.setup p.state change = search rules in
-    let here = ap (λ v. d.is_honest v.disk) c.self.view_is ∙ honest in
-    let here_p : d.is_honest p.journal.disk ≡ true = ap d.is_honest c.prepare-prepared.ensures.disk ∙ here in
-    let agrees = was.told here in
-    let more : a.bodies ≡ j.bodies ++ record_text event ∷ [] =
-    c.in-Ok-append.ensures.ok here_p ∙ ap (λ (bs : List (List ℕ)). bs ++ c.deref.result.now ∷ []) c.prepare-prepared.ensures.bodies ∙ ap (λ (b : List ℕ). j.bodies ++ b ∷ []) text in
-    (ap events_of more ∙ events_more event c.requires.recordable j.bodies ∙ ap (λ v. v.ledger.history ++ event ∷ []) c.self.view_is, ap event_in none)
+    let next = c.commit.new.self in
+    let step : step_of i.setup p.state.machine event ≡ Some next.machine = subst (λ e. step_of i.setup p.state.machine e ≡ Some next.machine) same (c.commit.ensures i.setup pend.planned) in
+    let added = subst (λ b. IsAdded w p.journal b a) text c.in-Ok-append.ensures.ok in
+    subst (λ v. HasRecorded w (Do event (tt {0})) v (Ok (tt {0})) (desk_of i.setup next i.doubt a)) view
+    (added_recorded w i.setup p.state i.doubt p.journal a was c.append.ensures.same c.append.ensures.images event c.requires.recordable added next step i.doubt none)
 
 pub returns-in-Ok-append-clause-any_moment : goal.returns-in-Ok-append-clause-any_moment
 returns-in-Ok-append-clause-any_moment g c honest =
-    let d = g.D.Disk in
+    let w = g.D.Disk.words in
     let i = c.self.inside in
     let j = i.journal in
     let p = c.prepare-prepared.new in
     let a = c.append.new.self in
     let event = c.args.event in
     let change = c.in-Ok.change in
-    let was = c.self.invariant in
     let none : i.doubt ≡ None = no_change i.doubt (ap (λ v. v.ledger.doubt) c.self.view_is ∙ c.requires.clear) in
+    let was = prepared_consistent w i.setup i.state p.state i.doubt j p.journal c.prepare-prepared.ensures.machine c.prepare-prepared.ensures.journal none c.self.invariant in
+    let view = prepared_view w i.setup i.state p.state i.doubt j p.journal c.prepare-prepared.ensures.machine c.prepare-prepared.ensures.journal ∙ c.self.view_is in
+    let steps = subst (λ v. IsSome (step_of v.setup v.ledger.machine event)) (sym c.self.view_is) c.requires.step in
+    let pend : IsPending i.setup p.state change = c.in-Ok.ensures.pending i.setup steps in
+    let same : change.event ≡ event = c.in-Ok.ensures.event in
     let text : c.deref.result.now ≡ record_text event = search rules in
-    let same : change.event ≡ event = search rules in
-    let pend : IsPending i.setup p.state change = search rules in
-    let m = c.commit.new.self.machine in
-    let step : step_of i.setup i.state.machine event ≡ Some m =
-    subst (λ e. step_of i.setup i.state.machine e ≡ Some m) same (subst (λ s. step_of i.setup s change.event ≡ Some m) c.prepare-prepared.ensures.machine (pend.step ∙ c.commit.ensures)) in
-    let here = ap (λ v. d.is_honest v.disk) c.self.view_is ∙ honest in
-    let here_p : d.is_honest p.journal.disk ≡ true = ap d.is_honest c.prepare-prepared.ensures.disk ∙ here in
-    let agrees = was.told here in
-    let more : a.bodies ≡ j.bodies ++ record_text event ∷ [] =
-    c.in-Ok-append.ensures.ok here_p ∙ ap (λ (bs : List (List ℕ)). bs ++ c.deref.result.now ∷ []) c.prepare-prepared.ensures.bodies ∙ ap (λ (b : List ℕ). j.bodies ++ b ∷ []) text in
-    let run = subst (λ x. LeavesOnly d.moment d.left_since x a.disk (IsTextWithDoubt j.bodies (Some (record_text event)))) c.prepare-prepared.ensures.disk
-    (subst (λ bs. LeavesOnly d.moment d.left_since p.journal.disk a.disk (IsTextWithDoubt bs (Some (record_text event)))) c.prepare-prepared.ensures.bodies
-    (subst (λ b. LeavesOnly d.moment d.left_since p.journal.disk a.disk (IsTextWithDoubt p.journal.bodies (Some b))) text (c.append.ensures.any_moment here_p))) in
-    let longer = ap events_of more ∙ events_more event c.requires.recordable j.bodies in
-    let P : List ℕ → Type 0 = λ f. StandsWith i.setup (events_of j.bodies) (event_in i.doubt) f ⊎ StandsWith i.setup (events_of a.bodies) (event_in i.doubt) f in
-    subst (λ v. LeavesOnly d.moment d.left_since v.disk a.disk (λ f. Stands v.setup v.ledger f ⊎ StandsWith v.setup (events_of a.bodies) (event_in i.doubt) f)) c.self.view_is
-    (weaker d.moment d.left_since j.disk a.disk (IsTextWithDoubt j.bodies (Some (record_text event))) P
-    (during_kept i.setup j.bodies a.bodies i.state.machine m agrees.texts agrees.runs event step (event_in i.doubt) (event_in i.doubt) (ap event_in none) longer (ap event_in none)) run)
+    let next = c.commit.new.self in
+    let step : step_of i.setup p.state.machine event ≡ Some next.machine = subst (λ e. step_of i.setup p.state.machine e ≡ Some next.machine) same (c.commit.ensures i.setup pend.planned) in
+    let added = subst (λ b. IsAdded w p.journal b a) text c.in-Ok-append.ensures.ok in
+    let here = ap (λ v. w.honest v.disk) view ∙ honest in
+    let run = subst (λ b. LeavesOnly w p.journal.disk a.disk (IsTextWithDoubt p.journal.bodies (Some b))) text (c.append.ensures.any_moment here) in
+    let later = (desk_of i.setup next i.doubt a).ledger in
+    let there : (f : List ℕ) → StandsFor i.setup (events_of p.journal.bodies ++ event ∷ []) f → Stands i.setup later f =
+    λ f stands. subst (λ o. StandsWith i.setup (events_of a.bodies) (event_in o) f) (sym none) (subst (λ h. StandsFor i.setup h f) (sym (added_history w i.setup p.state i.doubt p.journal a was c.append.ensures.same c.append.ensures.images event c.requires.recordable added next step here)) stands) in
+    subst (λ v. LeavesOnly w v.disk a.disk (StandsDuring v.setup v.ledger later)) view (during_event w i.setup p.state i.doubt p.journal a was c.append.ensures.same c.append.ensures.images none here later event next.machine step there run)
 
 pub returns-in-Ok-append-clause-images : goal.returns-in-Ok-append-clause-images
-returns-in-Ok-append-clause-images g c honest =
-    let d = g.D.Disk in
+returns-in-Ok-append-clause-images g c =
+    let w = g.D.Disk.words in
     let i = c.self.inside in
     let j = i.journal in
     let p = c.prepare-prepared.new in
     let a = c.append.new.self in
     let event = c.args.event in
     let change = c.in-Ok.change in
-    let was = c.self.invariant in
     let none : i.doubt ≡ None = no_change i.doubt (ap (λ v. v.ledger.doubt) c.self.view_is ∙ c.requires.clear) in
+    let was = prepared_consistent w i.setup i.state p.state i.doubt j p.journal c.prepare-prepared.ensures.machine c.prepare-prepared.ensures.journal none c.self.invariant in
+    let view = prepared_view w i.setup i.state p.state i.doubt j p.journal c.prepare-prepared.ensures.machine c.prepare-prepared.ensures.journal ∙ c.self.view_is in
+    let steps = subst (λ v. IsSome (step_of v.setup v.ledger.machine event)) (sym c.self.view_is) c.requires.step in
+    let pend : IsPending i.setup p.state change = c.in-Ok.ensures.pending i.setup steps in
+    let same : change.event ≡ event = c.in-Ok.ensures.event in
     let text : c.deref.result.now ≡ record_text event = search rules in
-    let same : change.event ≡ event = search rules in
-    let pend : IsPending i.setup p.state change = search rules in
-    let m = c.commit.new.self.machine in
-    let step : step_of i.setup i.state.machine event ≡ Some m =
-    subst (λ e. step_of i.setup i.state.machine e ≡ Some m) same (subst (λ s. step_of i.setup s change.event ≡ Some m) c.prepare-prepared.ensures.machine (pend.step ∙ c.commit.ensures)) in
-    let here = ap (λ v. d.is_honest v.disk) c.self.view_is ∙ honest in
-    let here_p : d.is_honest p.journal.disk ≡ true = ap d.is_honest c.prepare-prepared.ensures.disk ∙ here in
-    let agrees = was.told here in
-    let more : a.bodies ≡ j.bodies ++ record_text event ∷ [] =
-    c.in-Ok-append.ensures.ok here_p ∙ ap (λ (bs : List (List ℕ)). bs ++ c.deref.result.now ∷ []) c.prepare-prepared.ensures.bodies ∙ ap (λ (b : List ℕ). j.bodies ++ b ∷ []) text in
-    stands_now i.setup c.commit.new.self i.doubt (d.may_leave a.disk) a.bodies a.doubt (subst (λ o. IfSome o (IsPending i.setup c.commit.new.self)) (sym none) tt)
-    (subst (λ o. Agrees i.setup m (event_in o) (d.may_leave a.disk) a.bodies a.doubt) (sym none)
-    (agrees_more i.setup i.state.machine (event_in i.doubt) (d.may_leave j.disk) (d.may_leave a.disk) j.bodies a.bodies j.doubt a.doubt agrees (c.append.ensures.later here_p)
-    event m c.requires.recordable step more c.in-Ok-append.ensures.settled))
+    let next = c.commit.new.self in
+    let step : step_of i.setup p.state.machine event ≡ Some next.machine = subst (λ e. step_of i.setup p.state.machine e ≡ Some next.machine) same (c.commit.ensures i.setup pend.planned) in
+    let added = subst (λ b. IsAdded w p.journal b a) text c.in-Ok-append.ensures.ok in
+    let more = counted i.setup p.state.machine next.machine event (c.runs_are_sound.ensures i.setup) was.reached step in
+    stands_now w i.setup next i.doubt a (added_consistent w i.setup p.state i.doubt p.journal a was c.append.ensures.same c.append.ensures.images event c.requires.recordable added next step more i.doubt none)
+
+pub invariant_of-self-then-in_doubt : goal.invariant_of-self-then-in_doubt
+invariant_of-self-then-in_doubt g c =
+    let w = g.D.Disk.words in
+    let i = c.self.inside in
+    let j = i.journal in
+    let p = c.prepare-prepared.new in
+    let a = c.append.new.self in
+    let event = c.args.event in
+    let change = c.in-Ok.change in
+    let none : i.doubt ≡ None = no_change i.doubt (ap (λ v. v.ledger.doubt) c.self.view_is ∙ c.requires.clear) in
+    let was = prepared_consistent w i.setup i.state p.state i.doubt j p.journal c.prepare-prepared.ensures.machine c.prepare-prepared.ensures.journal none c.self.invariant in
+    let view = prepared_view w i.setup i.state p.state i.doubt j p.journal c.prepare-prepared.ensures.machine c.prepare-prepared.ensures.journal ∙ c.self.view_is in
+    let steps = subst (λ v. IsSome (step_of v.setup v.ledger.machine event)) (sym c.self.view_is) c.requires.step in
+    let pend : IsPending i.setup p.state change = c.in-Ok.ensures.pending i.setup steps in
+    let same : change.event ≡ event = c.in-Ok.ensures.event in
+    let text : c.deref.result.now ≡ record_text event = search rules in
+    let failed : IsErr c.append.result = search rules in
+    let some : is_some a.doubt ≡ true = search rules in
+    let stays = subst (λ b. StaysWith w p.journal (Some b) a) (text ∙ ap record_text (sym same)) (is_doubted w p.journal c.deref.result.now a some (c.append.ensures.err failed)) in
+    doubted_consistent w i.setup p.state i.doubt p.journal a was c.append.ensures.same c.append.ensures.images p.state change refl pend stays
+
+pub returns-then-in_doubt-clause-made : goal.returns-then-in_doubt-clause-made
+returns-then-in_doubt-clause-made g c =
+    let w = g.D.Disk.words in
+    let i = c.self.inside in
+    let j = i.journal in
+    let p = c.prepare-prepared.new in
+    let a = c.append.new.self in
+    let event = c.args.event in
+    let change = c.in-Ok.change in
+    let none : i.doubt ≡ None = no_change i.doubt (ap (λ v. v.ledger.doubt) c.self.view_is ∙ c.requires.clear) in
+    let was = prepared_consistent w i.setup i.state p.state i.doubt j p.journal c.prepare-prepared.ensures.machine c.prepare-prepared.ensures.journal none c.self.invariant in
+    let view = prepared_view w i.setup i.state p.state i.doubt j p.journal c.prepare-prepared.ensures.machine c.prepare-prepared.ensures.journal ∙ c.self.view_is in
+    let steps = subst (λ v. IsSome (step_of v.setup v.ledger.machine event)) (sym c.self.view_is) c.requires.step in
+    let pend : IsPending i.setup p.state change = c.in-Ok.ensures.pending i.setup steps in
+    let same : change.event ≡ event = c.in-Ok.ensures.event in
+    let text : c.deref.result.now ≡ record_text event = search rules in
+    let failed : IsErr c.append.result = search rules in
+    let some : is_some a.doubt ≡ true = search rules in
+    let stays = subst (λ b. StaysWith w p.journal (Some b) a) (text ∙ ap record_text (sym same)) (is_doubted w p.journal c.deref.result.now a some (c.append.ensures.err failed)) in
+    subst (λ v. HasRecorded w (Do event (tt {0})) v (Err JournalFault) (desk_of i.setup p.state (Some change) a)) view
+    (not_recorded w i.setup p.state i.doubt p.journal a was c.append.ensures.same c.append.ensures.images event (Some (record_text change.event)) stays (Some change) (inr (ap (λ e. Some e) same)))
 
 pub returns-then-in_doubt-clause-any_moment : goal.returns-then-in_doubt-clause-any_moment
 returns-then-in_doubt-clause-any_moment g c honest =
-    let d = g.D.Disk in
+    let w = g.D.Disk.words in
     let i = c.self.inside in
     let j = i.journal in
     let p = c.prepare-prepared.new in
     let a = c.append.new.self in
     let event = c.args.event in
     let change = c.in-Ok.change in
-    let was = c.self.invariant in
     let none : i.doubt ≡ None = no_change i.doubt (ap (λ v. v.ledger.doubt) c.self.view_is ∙ c.requires.clear) in
+    let was = prepared_consistent w i.setup i.state p.state i.doubt j p.journal c.prepare-prepared.ensures.machine c.prepare-prepared.ensures.journal none c.self.invariant in
+    let view = prepared_view w i.setup i.state p.state i.doubt j p.journal c.prepare-prepared.ensures.machine c.prepare-prepared.ensures.journal ∙ c.self.view_is in
+    let steps = subst (λ v. IsSome (step_of v.setup v.ledger.machine event)) (sym c.self.view_is) c.requires.step in
+    let pend : IsPending i.setup p.state change = c.in-Ok.ensures.pending i.setup steps in
+    let same : change.event ≡ event = c.in-Ok.ensures.event in
     let text : c.deref.result.now ≡ record_text event = search rules in
-    let same : change.event ≡ event = search rules in
-    let pend : IsPending i.setup p.state change = search rules in
-    let here = ap (λ v. d.is_honest v.disk) c.self.view_is ∙ honest in
-    let here_p : d.is_honest p.journal.disk ≡ true = ap d.is_honest c.prepare-prepared.ensures.disk ∙ here in
-    let agrees = was.told here in
-    let run = subst (λ x. LeavesOnly d.moment d.left_since x a.disk (IsTextWithDoubt j.bodies (Some (record_text event)))) c.prepare-prepared.ensures.disk
-    (subst (λ bs. LeavesOnly d.moment d.left_since p.journal.disk a.disk (IsTextWithDoubt bs (Some (record_text event)))) c.prepare-prepared.ensures.bodies
-    (subst (λ b. LeavesOnly d.moment d.left_since p.journal.disk a.disk (IsTextWithDoubt p.journal.bodies (Some b))) text (c.append.ensures.any_moment here_p))) in
     let failed : IsErr c.append.result = search rules in
-    let kept : a.bodies ≡ j.bodies = c.append.ensures.err failed here_p ∙ c.prepare-prepared.ensures.bodies in
-    let next = found (step_of i.setup i.state.machine event) (subst (λ v. IsSome (step_of v.setup v.machine event)) (sym c.self.view_is) c.requires.step) in
-    let P : List ℕ → Type 0 = λ f. StandsWith i.setup (events_of j.bodies) (event_in i.doubt) f ⊎ StandsWith i.setup (events_of a.bodies) (Some change.event) f in
-    subst (λ v. LeavesOnly d.moment d.left_since v.disk a.disk (λ f. Stands v.setup v.ledger f ⊎ StandsWith v.setup (events_of a.bodies) (Some change.event) f)) c.self.view_is
-    (weaker d.moment d.left_since j.disk a.disk (IsTextWithDoubt j.bodies (Some (record_text event))) P
-    (during_doubt i.setup j.bodies a.bodies i.state.machine next.0 agrees.texts agrees.runs event next.1 (event_in i.doubt) (Some change.event) (ap event_in none) (ap events_of kept) (ap (λ (e : Event). Some e) same)) run)
+    let some : is_some a.doubt ≡ true = search rules in
+    let stays = subst (λ b. StaysWith w p.journal (Some b) a) (text ∙ ap record_text (sym same)) (is_doubted w p.journal c.deref.result.now a some (c.append.ensures.err failed)) in
+    let here = ap (λ v. w.honest v.disk) view ∙ honest in
+    let run = subst (λ b. LeavesOnly w p.journal.disk a.disk (IsTextWithDoubt p.journal.bodies (Some b))) text (c.append.ensures.any_moment here) in
+    let later = (desk_of i.setup p.state (Some change) a).ledger in
+    let steps_p = subst (λ e. IsSome (step_of i.setup p.state.machine e)) same pend.planned.step in
+    let last = found (step_of i.setup p.state.machine event) steps_p in
+    let there : (f : List ℕ) → StandsFor i.setup (events_of p.journal.bodies ++ event ∷ []) f → Stands i.setup later f =
+    λ f stands. inr (subst (λ bs. StandsFor i.setup (events_of bs ++ change.event ∷ []) f) (sym (stays.bodies here)) (subst (λ e. StandsFor i.setup (events_of p.journal.bodies ++ e ∷ []) f) (sym same) stands)) in
+    subst (λ v. LeavesOnly w v.disk a.disk (StandsDuring v.setup v.ledger later)) view (during_event w i.setup p.state i.doubt p.journal a was c.append.ensures.same c.append.ensures.images none here later event last.0 last.1 there run)
 
 pub returns-then-in_doubt-clause-images : goal.returns-then-in_doubt-clause-images
-returns-then-in_doubt-clause-images g c honest =
-    let d = g.D.Disk in
+returns-then-in_doubt-clause-images g c =
+    let w = g.D.Disk.words in
     let i = c.self.inside in
     let j = i.journal in
     let p = c.prepare-prepared.new in
     let a = c.append.new.self in
     let event = c.args.event in
     let change = c.in-Ok.change in
-    let was = c.self.invariant in
     let none : i.doubt ≡ None = no_change i.doubt (ap (λ v. v.ledger.doubt) c.self.view_is ∙ c.requires.clear) in
+    let was = prepared_consistent w i.setup i.state p.state i.doubt j p.journal c.prepare-prepared.ensures.machine c.prepare-prepared.ensures.journal none c.self.invariant in
+    let view = prepared_view w i.setup i.state p.state i.doubt j p.journal c.prepare-prepared.ensures.machine c.prepare-prepared.ensures.journal ∙ c.self.view_is in
+    let steps = subst (λ v. IsSome (step_of v.setup v.ledger.machine event)) (sym c.self.view_is) c.requires.step in
+    let pend : IsPending i.setup p.state change = c.in-Ok.ensures.pending i.setup steps in
+    let same : change.event ≡ event = c.in-Ok.ensures.event in
     let text : c.deref.result.now ≡ record_text event = search rules in
-    let same : change.event ≡ event = search rules in
-    let pend : IsPending i.setup p.state change = search rules in
-    let here = ap (λ v. d.is_honest v.disk) c.self.view_is ∙ honest in
-    let here_p : d.is_honest p.journal.disk ≡ true = ap d.is_honest c.prepare-prepared.ensures.disk ∙ here in
-    let agrees = was.told here in
     let failed : IsErr c.append.result = search rules in
-    let kept : a.bodies ≡ j.bodies = c.append.ensures.err failed here_p ∙ c.prepare-prepared.ensures.bodies in
     let some : is_some a.doubt ≡ true = search rules in
-    let there : a.doubt ≡ Some (record_text change.event) =
-    is_there a.doubt c.deref.result.now some (c.append.ensures.in_doubt failed here_p) ∙ ap (λ (b : List ℕ). Some b) (text ∙ ap record_text (sym same)) in
-    let old = subst (λ s. Agrees i.setup s (event_in i.doubt) (d.may_leave j.disk) j.bodies j.doubt) (sym c.prepare-prepared.ensures.machine) agrees in
-    stands_now i.setup p.state (Some change) (d.may_leave a.disk) a.bodies a.doubt pend
-    (agrees_same i.setup p.state.machine (event_in i.doubt) (d.may_leave j.disk) (d.may_leave a.disk) j.bodies a.bodies j.doubt a.doubt old (c.append.ensures.later here_p) (Some change.event) kept there)
+    let stays = subst (λ b. StaysWith w p.journal (Some b) a) (text ∙ ap record_text (sym same)) (is_doubted w p.journal c.deref.result.now a some (c.append.ensures.err failed)) in
+    stands_now w i.setup p.state (Some change) a (doubted_consistent w i.setup p.state i.doubt p.journal a was c.append.ensures.same c.append.ensures.images p.state change refl pend stays)
+
+pub invariant_of-self-else-in_doubt : goal.invariant_of-self-else-in_doubt
+invariant_of-self-else-in_doubt g c =
+    let w = g.D.Disk.words in
+    let i = c.self.inside in
+    let j = i.journal in
+    let p = c.prepare-prepared.new in
+    let a = c.append.new.self in
+    let event = c.args.event in
+    let change = c.in-Ok.change in
+    let none : i.doubt ≡ None = no_change i.doubt (ap (λ v. v.ledger.doubt) c.self.view_is ∙ c.requires.clear) in
+    let was = prepared_consistent w i.setup i.state p.state i.doubt j p.journal c.prepare-prepared.ensures.machine c.prepare-prepared.ensures.journal none c.self.invariant in
+    let view = prepared_view w i.setup i.state p.state i.doubt j p.journal c.prepare-prepared.ensures.machine c.prepare-prepared.ensures.journal ∙ c.self.view_is in
+    let steps = subst (λ v. IsSome (step_of v.setup v.ledger.machine event)) (sym c.self.view_is) c.requires.step in
+    let pend : IsPending i.setup p.state change = c.in-Ok.ensures.pending i.setup steps in
+    let same : change.event ≡ event = c.in-Ok.ensures.event in
+    let text : c.deref.result.now ≡ record_text event = search rules in
+    let failed : IsErr c.append.result = search rules in
+    let off : is_some a.doubt ≡ false = search rules in
+    let un = is_unwritten w p.journal c.deref.result.now a off (c.append.ensures.err failed) in
+    still_consistent w i.setup p.state i.doubt p.journal a was c.append.ensures.same c.append.ensures.images un.stays i.doubt none
+
+pub returns-clause-made : goal.returns-clause-made
+returns-clause-made g c =
+    let w = g.D.Disk.words in
+    let i = c.self.inside in
+    let j = i.journal in
+    let p = c.prepare-prepared.new in
+    let a = c.append.new.self in
+    let event = c.args.event in
+    let change = c.in-Ok.change in
+    let none : i.doubt ≡ None = no_change i.doubt (ap (λ v. v.ledger.doubt) c.self.view_is ∙ c.requires.clear) in
+    let was = prepared_consistent w i.setup i.state p.state i.doubt j p.journal c.prepare-prepared.ensures.machine c.prepare-prepared.ensures.journal none c.self.invariant in
+    let view = prepared_view w i.setup i.state p.state i.doubt j p.journal c.prepare-prepared.ensures.machine c.prepare-prepared.ensures.journal ∙ c.self.view_is in
+    let steps = subst (λ v. IsSome (step_of v.setup v.ledger.machine event)) (sym c.self.view_is) c.requires.step in
+    let pend : IsPending i.setup p.state change = c.in-Ok.ensures.pending i.setup steps in
+    let same : change.event ≡ event = c.in-Ok.ensures.event in
+    let text : c.deref.result.now ≡ record_text event = search rules in
+    let failed : IsErr c.append.result = search rules in
+    let off : is_some a.doubt ≡ false = search rules in
+    let un = is_unwritten w p.journal c.deref.result.now a off (c.append.ensures.err failed) in
+    subst (λ v. HasRecorded w (Do event (tt {0})) v (Err JournalFault) (desk_of i.setup p.state i.doubt a)) view
+    (not_recorded w i.setup p.state i.doubt p.journal a was c.append.ensures.same c.append.ensures.images event None un.stays i.doubt (inl (ap event_in none)))
 
 pub returns-clause-any_moment : goal.returns-clause-any_moment
 returns-clause-any_moment g c honest =
-    let d = g.D.Disk in
+    let w = g.D.Disk.words in
     let i = c.self.inside in
     let j = i.journal in
     let p = c.prepare-prepared.new in
     let a = c.append.new.self in
     let event = c.args.event in
     let change = c.in-Ok.change in
-    let was = c.self.invariant in
     let none : i.doubt ≡ None = no_change i.doubt (ap (λ v. v.ledger.doubt) c.self.view_is ∙ c.requires.clear) in
+    let was = prepared_consistent w i.setup i.state p.state i.doubt j p.journal c.prepare-prepared.ensures.machine c.prepare-prepared.ensures.journal none c.self.invariant in
+    let view = prepared_view w i.setup i.state p.state i.doubt j p.journal c.prepare-prepared.ensures.machine c.prepare-prepared.ensures.journal ∙ c.self.view_is in
+    let steps = subst (λ v. IsSome (step_of v.setup v.ledger.machine event)) (sym c.self.view_is) c.requires.step in
+    let pend : IsPending i.setup p.state change = c.in-Ok.ensures.pending i.setup steps in
+    let same : change.event ≡ event = c.in-Ok.ensures.event in
     let text : c.deref.result.now ≡ record_text event = search rules in
-    let same : change.event ≡ event = search rules in
-    let pend : IsPending i.setup p.state change = search rules in
-    let here = ap (λ v. d.is_honest v.disk) c.self.view_is ∙ honest in
-    let here_p : d.is_honest p.journal.disk ≡ true = ap d.is_honest c.prepare-prepared.ensures.disk ∙ here in
-    let agrees = was.told here in
     let failed : IsErr c.append.result = search rules in
     let off : is_some a.doubt ≡ false = search rules in
-    let run = subst (λ x. LeavesOnly d.moment d.left_since x a.disk (IsJournalText j.bodies)) c.prepare-prepared.ensures.disk
-    (subst (λ bs. LeavesOnly d.moment d.left_since p.journal.disk a.disk (IsJournalText bs)) c.prepare-prepared.ensures.bodies
-    (c.append.ensures.unwritten failed (is_none_of a.doubt off) here_p)) in
-    let next = found (step_of i.setup i.state.machine event) (subst (λ v. IsSome (step_of v.setup v.machine event)) (sym c.self.view_is) c.requires.step) in
-    let P : List ℕ → Type 0 = λ f. StandsWith i.setup (events_of j.bodies) (event_in i.doubt) f ⊎ StandsWith i.setup (events_of a.bodies) (event_in i.doubt) f in
-    subst (λ v. LeavesOnly d.moment d.left_since v.disk a.disk (λ f. Stands v.setup v.ledger f ⊎ StandsWith v.setup (events_of a.bodies) (event_in i.doubt) f)) c.self.view_is
-    (weaker d.moment d.left_since j.disk a.disk (IsJournalText j.bodies) P
-    (during_none i.setup j.bodies a.bodies i.state.machine next.0 agrees.texts agrees.runs event next.1 (event_in i.doubt) (event_in i.doubt) (ap event_in none)) run)
+    let un = is_unwritten w p.journal c.deref.result.now a off (c.append.ensures.err failed) in
+    let here = ap (λ v. w.honest v.disk) view ∙ honest in
+    let later = (desk_of i.setup p.state i.doubt a).ledger in
+    subst (λ v. LeavesOnly w v.disk a.disk (StandsDuring v.setup v.ledger later)) view (during_nothing w i.setup p.state i.doubt p.journal a was c.append.ensures.same c.append.ensures.images none here later (un.any_moment here))
+
+pub returns-clause-images : goal.returns-clause-images
+returns-clause-images g c =
+    let w = g.D.Disk.words in
+    let i = c.self.inside in
+    let j = i.journal in
+    let p = c.prepare-prepared.new in
+    let a = c.append.new.self in
+    let event = c.args.event in
+    let change = c.in-Ok.change in
+    let none : i.doubt ≡ None = no_change i.doubt (ap (λ v. v.ledger.doubt) c.self.view_is ∙ c.requires.clear) in
+    let was = prepared_consistent w i.setup i.state p.state i.doubt j p.journal c.prepare-prepared.ensures.machine c.prepare-prepared.ensures.journal none c.self.invariant in
+    let view = prepared_view w i.setup i.state p.state i.doubt j p.journal c.prepare-prepared.ensures.machine c.prepare-prepared.ensures.journal ∙ c.self.view_is in
+    let steps = subst (λ v. IsSome (step_of v.setup v.ledger.machine event)) (sym c.self.view_is) c.requires.step in
+    let pend : IsPending i.setup p.state change = c.in-Ok.ensures.pending i.setup steps in
+    let same : change.event ≡ event = c.in-Ok.ensures.event in
+    let text : c.deref.result.now ≡ record_text event = search rules in
+    let failed : IsErr c.append.result = search rules in
+    let off : is_some a.doubt ≡ false = search rules in
+    let un = is_unwritten w p.journal c.deref.result.now a off (c.append.ensures.err failed) in
+    stands_now w i.setup p.state i.doubt a (still_consistent w i.setup p.state i.doubt p.journal a was c.append.ensures.same c.append.ensures.images un.stays i.doubt none)
+
+pub invariant_of-self : goal.invariant_of-self
+invariant_of-self g c =
+    let w = g.D.Disk.words in
+    let i = c.self.inside in
+    let j = i.journal in
+    let p = c.prepare-prepared.new in
+    let none : i.doubt ≡ None = no_change i.doubt (ap (λ v. v.ledger.doubt) c.self.view_is ∙ c.requires.clear) in
+    let was = prepared_consistent w i.setup i.state p.state i.doubt j p.journal c.prepare-prepared.ensures.machine c.prepare-prepared.ensures.journal none c.self.invariant in
+    let view = prepared_view w i.setup i.state p.state i.doubt j p.journal c.prepare-prepared.ensures.machine c.prepare-prepared.ensures.journal ∙ c.self.view_is in
+    was
+
+pub returns-in_default-clause-made : goal.returns-in_default-clause-made
+returns-in_default-clause-made g c =
+    let w = g.D.Disk.words in
+    let i = c.self.inside in
+    let j = i.journal in
+    let p = c.prepare-prepared.new in
+    let none : i.doubt ≡ None = no_change i.doubt (ap (λ v. v.ledger.doubt) c.self.view_is ∙ c.requires.clear) in
+    let was = prepared_consistent w i.setup i.state p.state i.doubt j p.journal c.prepare-prepared.ensures.machine c.prepare-prepared.ensures.journal none c.self.invariant in
+    let view = prepared_view w i.setup i.state p.state i.doubt j p.journal c.prepare-prepared.ensures.machine c.prepare-prepared.ensures.journal ∙ c.self.view_is in
+    subst (λ x. HasRecorded w (Do c.args.event (tt {0})) c.args.self.now (Err OutOfMemory) x) (sym view) (idle_recorded w (Do c.args.event (tt {0})) c.args.self.now c.requires.clear)
+
+pub returns-in_default-clause-any_moment : goal.returns-in_default-clause-any_moment
+returns-in_default-clause-any_moment g c honest =
+    let w = g.D.Disk.words in
+    let i = c.self.inside in
+    let j = i.journal in
+    let p = c.prepare-prepared.new in
+    let none : i.doubt ≡ None = no_change i.doubt (ap (λ v. v.ledger.doubt) c.self.view_is ∙ c.requires.clear) in
+    let was = prepared_consistent w i.setup i.state p.state i.doubt j p.journal c.prepare-prepared.ensures.machine c.prepare-prepared.ensures.journal none c.self.invariant in
+    let view = prepared_view w i.setup i.state p.state i.doubt j p.journal c.prepare-prepared.ensures.machine c.prepare-prepared.ensures.journal ∙ c.self.view_is in
+    let v = c.args.self.now in
+    let stays = subst (λ x. (f : List ℕ) → w.may_leave x.disk f → Stands x.setup x.ledger f) view (stands_now w i.setup p.state i.doubt p.journal was (ap (λ x. w.honest x.disk) view ∙ honest)) in
+    subst (λ x. LeavesOnly w v.disk x.disk (StandsDuring v.setup v.ledger x.ledger)) (sym view)
+    (started w v.disk (StandsDuring v.setup v.ledger v.ledger) (λ f left. inl (stays f (g.met.D.Disk.laws.only_now v.disk f honest left))))
+
+pub returns-in_default-clause-images : goal.returns-in_default-clause-images
+returns-in_default-clause-images g c =
+    let w = g.D.Disk.words in
+    let i = c.self.inside in
+    let j = i.journal in
+    let p = c.prepare-prepared.new in
+    let none : i.doubt ≡ None = no_change i.doubt (ap (λ v. v.ledger.doubt) c.self.view_is ∙ c.requires.clear) in
+    let was = prepared_consistent w i.setup i.state p.state i.doubt j p.journal c.prepare-prepared.ensures.machine c.prepare-prepared.ensures.journal none c.self.invariant in
+    let view = prepared_view w i.setup i.state p.state i.doubt j p.journal c.prepare-prepared.ensures.machine c.prepare-prepared.ensures.journal ∙ c.self.view_is in
+    stands_now w i.setup p.state i.doubt p.journal was

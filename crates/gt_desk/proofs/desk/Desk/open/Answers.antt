@@ -1,28 +1,47 @@
-use Rattle.std.proofs.Common.{rules, inl, subst}
-use Rattle.gt_desk.proofs.Damages.{damaged_as}
-use Rattle.gt_desk.proofs.Standing.{opened_stands}
-use Rattle.gt_desk.specs.Desk.{events_of}
-use Rattle.gt_desk.specs.History.{StandsFor}
-use Rattle.gt_desk.specs.Opening.{IsBadAs, Replays}
-use Rattle.gt_disk.proofs.Moments.{weaker}
+use Rattle.std.proofs.Common.{◌≡◌, ◌∙◌, ◌≤◌, ◌*◌, arith, inl, length, rules, subst, sym}
+use Rattle.gt_desk.proofs.Damages.{damaged_as, many_lists}
+use Rattle.gt_desk.proofs.Openings.{not_replayed, opened, opened_consistent}
+use Rattle.gt_desk.specs.Replay.{IsBadAs, Replays}
 use Rattle.gt_journal.specs.JournalText.{IsJournalText}
-use Rattle.gt_journal.specs.Opening.{lists}
+use Rattle.gt_journal.specs.Opening.{OnceSynced}
+use Rattle.gt_journal.specs.Reading.{lists}
 use Rattle.gt_desk.proofs.desk.Desk.open.Goals as goal
 
-pub returns-in-Ok-replay-clause-since_sync : goal.returns-in-Ok-replay-clause-since_sync
-returns-in-Ok-replay-clause-since_sync g c honest =
-    let d = g.D.Disk in
+pub invariant_of-result : goal.invariant_of-result
+invariant_of-result g c =
+    let w = g.D.Disk.words in
     let j = c.in-Ok.journal in
     let read = lists c.in-Ok.bodies.items in
-    let found = c.in-Ok.ensures.bodies honest in
-    let m = c.in-Ok-replay.state.machine in
-    let replays : Replays c.args.setup read m = search (rules, c.in-Ok-replay.ensures.ok) in
-    let (synced, before, only, after) = c.in-Ok.ensures.since_sync honest in
-    (synced, before, only, weaker d.moment d.left_since synced j.disk (IsJournalText j.bodies) (StandsFor c.args.setup (events_of j.bodies)) (opened_stands c.args.setup j.bodies read m found.0 replays) after)
+    let state = c.in-Ok-replay.state in
+    let replays : Replays c.args.setup read state.machine = search (rules, c.in-Ok-replay.ensures.ok) in
+    let passed : c.deref.result.now ≡ c.in-Ok.bodies.items = search rules in
+    let counted = subst (λ vs. state.machine.events ≤ length vs) passed c.in-Ok-replay.ensures.few in
+    let few : 9 * state.machine.events ≤ j.place = omega (arith, counted, c.in-Ok.ensures.clear.few, many_lists c.in-Ok.bodies.items) in
+    opened_consistent w c.args.setup c.args.disk read state replays j c.in-Ok.ensures.ok c.in-Ok-replay.ensures.reached few c.in-Ok.ensures.clear.clear c.in-Ok.ensures.images (λ t. sym c.in-Ok.ensures.same.honest ∙ t)
 
-pub returns-clause-damaged : goal.returns-clause-damaged
-returns-clause-damaged g c honest =
+pub returns-in-Ok-replay-clause-opened : goal.returns-in-Ok-replay-clause-opened
+returns-in-Ok-replay-clause-opened g c =
+    let w = g.D.Disk.words in
+    let j = c.in-Ok.journal in
     let read = lists c.in-Ok.bodies.items in
-    let found = c.in-Ok.ensures.bodies honest in
+    let state = c.in-Ok-replay.state in
+    let replays : Replays c.args.setup read state.machine = search (rules, c.in-Ok-replay.ensures.ok) in
+    opened w c.args.setup c.args.disk read state replays j c.in-Ok.ensures.ok
+
+pub returns-in-Err-clause-refused : goal.returns-in-Err-clause-refused
+returns-in-Err-clause-refused g c = record {
+  damaged = λ t. c.refusal-fault.ensures.damaged (g.D.Disk.words.seen c.args.disk) (c.in-Err.ensures.err t).damaged;
+  crashes = λ t. (c.in-Err.ensures.err t).any_moment;
+}
+
+pub returns-clause-refused : goal.returns-clause-refused
+returns-clause-refused g c =
+    let w = g.D.Disk.words in
+    let read = lists c.in-Ok.bodies.items in
     let bad : IsBadAs c.args.setup read c.in-Err-replay.fault = search (rules, c.in-Err-replay.ensures.bad) in
-    damaged_as c.args.setup read (g.D.Disk.seen c.args.disk) c.in-Err-replay.fault bad (inl (subst (λ bs. IsJournalText bs (g.D.Disk.seen c.args.disk)) found.0 found.1))
+    record {
+      damaged = λ t. damaged_as c.args.setup read (w.seen c.args.disk) c.in-Err-replay.fault bad (inl (c.in-Ok.ensures.ok t).text);
+      crashes = λ t.
+          let is = c.in-Ok.ensures.ok t in
+          not_replayed w c.args.disk c.close.result read is.text c.one_reading.ensures.one_list c.one_reading.ensures.apart (subst (λ x. OnceSynced w c.args.disk x (IsJournalText read)) (sym c.close.ensures.value) is.any_moment);
+    }

@@ -1,6 +1,6 @@
 use Rattle.std.proofs.Common.{length, take, ◌++◌, ◌≡◌}
 use Rattle.std.specs.List.{flat_map}
-use Rattle.transferd.proofs.printing.table.Given as goal
+use Rattle.transferd.proofs.printing.table_of.Given as goal
 use Rattle.transferd.specs.Output.{count_text, task_text}
 
 abbrev pub invariant-loop-line : goal.invariant-loop-line
