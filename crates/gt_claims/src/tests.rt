@@ -146,34 +146,3 @@ fn least_item_in_conflict(rt: HostRuntime) -> Result<(), Fail> {
     assert_eq!(rt; claims.conflict(&asked, 0, 1), None);
     Ok(())
 }
-
-#[test]
-fn least_user_of_a_path(rt: HostRuntime) -> Result<(), Fail> {
-    let alloc = rt.alloc();
-    let mut claims = Claims::new(alloc);
-    let claimed = [
-        (9, Transfer(0, "/a", 1, "/x")),
-        (4, Erase(0, 1, "/x/y")),
-        (6, RemoveFolder(0, 1, "/d")),
-    ];
-    for (item, row) in claimed {
-        claims.reserve(1)?;
-        claims.put(item, claim(alloc, row)?);
-    }
-    let wants = [
-        (0, "/a/b", Some(9)),
-        (0, "/", Some(9)),
-        (0, "/ab", None),
-        (0, "/x", None),
-        (1, "/x", Some(4)),
-        (1, "/x/z", Some(9)),
-        (1, "/d/e", Some(6)),
-        (1, "/a", None),
-        (2, "/a", None),
-    ];
-    for (collection, at, want) in wants {
-        let user = claims.user_of(collection, &path(alloc, at)?);
-        assert_eq!(rt; user, want, "{collection} {at}");
-    }
-    Ok(())
-}
