@@ -1,6 +1,6 @@
 -- The task of an owner and a submission identifier, after each change of the rows.
-use Rattle.std.proofs.Common.{Bool, List, None, Option, Some, [], ap, arith, cond, false, find, refl, length, slice_get, slice_set, suc, sym, true, zero, ℕ, ◌&&◌, ◌+◌, ◌++◌, ◌-◌, ◌∙◌, ◌∷◌, ◌≡◌}
-use Rattle.std.specs.HashMap.{HashMap}
+use Rattle.std.proofs.Common.{Bool, List, None, Option, Some, [], ap, arith, cond, false, find, refl, length, slice_get, slice_set, suc, sym, true, zero, ℕ, ◌&&◌, ◌+◌, ◌++◌, ◌<◌, ◌^◌, ◌-◌, ◌∙◌, ◌∷◌, ◌≡◌, ◌≤◌}
+use Rattle.std.specs.HashMap.{HashMap, get, spare}
 use Rattle.std.specs.Option.{option_map, option_or}
 use Rattle.std.proofs.lemmas.List.{length-set}
 use Rattle.std.proofs.lemmas.List.Folds.{find-append}
@@ -55,7 +55,9 @@ module _ (owner submission : List ℕ) where
   pub number_of-written : (rows : List TaskRow) (number : ℕ) (row next : TaskRow) → row_at rows number ≡ Some row → IsSameTask row next
       → number_of owner submission (slice_set rows (number - 1) next) ≡ number_of owner submission rows
   number_of-written rows zero row next at same = cc
-  number_of-written rows (suc k) row next at same = number_of-set rows k row next at same
+  number_of-written rows (suc k) row next at same =
+      let place : suc k - 1 ≡ k = omega arith in
+      ap (λ i. number_of owner submission (slice_set rows i next)) place ∙ number_of-set rows k row next at same
 
   pushed : (b : Bool) (row : TaskRow) (n : ℕ) (found : Option TaskRow) → row.number ≡ n → (b ≡ true → option_map (λ r. r.number) found ≡ None)
       → cond b (Some n) (option_map (λ r. r.number) found) ≡ option_map (λ r. r.number) (option_or found (cond b (Some row) None))
@@ -88,3 +90,17 @@ filed_written same rows capacity found room number row next is at kept =
       free = is.free;
       few = omega (arith, is.few, length-set rows (number - 1) next);
     }
+
+-- the index stays where more room was taken
+pub filed_reserved : {S : Type 0} (same : Key → Key → Bool) (rows : List TaskRow) (capacity : ℕ) (found : HashMap Key ℕ S) (room : ℕ) → IsFiled same rows capacity found room
+    → (after : List TaskRow) (capacity_after : ℕ) (found_after : HashMap Key ℕ S) (room_after : ℕ) → after ≡ rows
+    → ((key : Key) → get same found_after key ≡ get same found key) → room_after ≤ capacity_after → room_after ≤ spare found_after → length rows + room_after < 2 ^ 64
+    → IsFiled same after capacity_after found_after room_after
+filed_reserved same rows capacity found room is after capacity_after found_after room_after rows_are entries reserved free few =
+    rw rows_are
+    (record {
+      numbers = λ owner submission. entries (owner, submission) ∙ is.numbers owner submission;
+      reserved = reserved;
+      free = free;
+      few = few;
+    })
