@@ -75,8 +75,8 @@ pub struct Item {
 
 impl ItemState {
     /// As what an item in this state is counted.
-    pub fn class(self) -> Class
-        ensures { result ≡ spec.class_of self }
+    pub fn class(&self) -> Class
+        ensures { result ≡ spec.class_of self.now }
     {
         match self {
             ItemState::Pending | ItemState::Running { .. } => Class::Pending,
@@ -90,8 +90,8 @@ impl ItemState {
     }
 
     /// Whether an item in this state has ended.
-    pub fn has_ended(self) -> bool
-        ensures { result ≡ spec.has_ended self }
+    pub fn has_ended(&self) -> bool
+        ensures { result ≡ spec.has_ended self.now }
     {
         match self {
             ItemState::Pending | ItemState::Running { .. } | ItemState::Retrying => false,
@@ -104,18 +104,18 @@ impl ItemState {
     }
 
     /// The event that gave an item in this state to a worker.
-    pub fn grant(self) -> Option<u64>
-        ensures { result ≡ spec.grant_of self }
+    pub fn grant(&self) -> Option<u64>
+        ensures { result ≡ spec.grant_of self.now }
     {
         match self {
-            ItemState::Running { grant, .. } => Some(grant),
+            ItemState::Running { grant, .. } => Some(*grant),
             _ => None,
         }
     }
 
     // Whether an item in this state is tried again.
-    fn is_retrying(self) -> bool
-        ensures { result ≡ spec.is_retrying self }
+    fn is_retrying(&self) -> bool
+        ensures { result ≡ spec.is_retrying self.now }
     {
         match self {
             ItemState::Retrying => true,
@@ -124,11 +124,11 @@ impl ItemState {
     }
 
     /// What an item in this state copied.
-    pub fn copy(self) -> Option<Evidence>
-        ensures { result ≡ spec.copy_of self }
+    pub fn copy(&self) -> Option<Evidence>
+        ensures { result ≡ spec.copy_of self.now }
     {
         match self {
-            ItemState::Succeeded(How::Copied(evidence)) => Some(evidence),
+            ItemState::Succeeded(How::Copied(evidence)) => Some(*evidence),
             _ => None,
         }
     }

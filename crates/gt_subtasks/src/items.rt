@@ -1,5 +1,6 @@
 ghost use Rattle.std.specs.Option.{option_copied};
-ghost use Rattle.std.specs.Prelude.{◌≡◌, ◌≤◌, ◌<◌, ◌+◌, ◌++◌, ◌∷◌, ◌^◌, [], IfOk, IsSome, OnOk, length};
+ghost use Rattle.std.specs.HashMap.{get, spare};
+ghost use Rattle.std.specs.Prelude.{◌≡◌, ◌≤◌, ◌<◌, ◌+◌, ◌++◌, ◌∷◌, ◌^◌, [], IfOk, IsSome, OnOk, Some, cond, length, nat_eq, ℕ};
 ghost use Rattle.gt_index.specs.Index.{places_where};
 ghost use Rattle.gt_values.specs.Rows.{changed_at, row_at};
 ghost use Rattle.gt_subtasks.specs.Counters.{counters_of};
@@ -189,7 +190,18 @@ impl Items {
         let row = self.rows.row_mut(item);
         row.set(state, faults, checked, at);
         let tally = others.with(Tally::of(row));
-        let counted = self.tallies.insert(task, tally).is_ok();
-        prove!(counted);
+        put_tally(&mut self.tallies, task, tally);
+    }
+}
+
+// Writes the running numbers of a task that has items.
+fn put_tally(tallies: &mut HashMap<u64, Tally>, task: u64, tally: Tally)
+    requires { IsSome (get nat_eq tallies.old task) }
+    ensures numbers { (other : ℕ) → get nat_eq tallies.new other
+        ≡ cond (nat_eq task other) (Some tally) (get nat_eq tallies.old other) }
+    ensures spare { spare tallies.new ≡ spare tallies.old }
+{
+    if let Some(kept) = tallies.get_mut(&task) {
+        *kept = tally;
     }
 }
