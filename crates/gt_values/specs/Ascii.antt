@@ -9,6 +9,14 @@ line_feed = 10
 abbrev pub space : ℕ
 space = 32
 
+-- `!`
+abbrev pub exclamation_mark : ℕ
+exclamation_mark = 33
+
+-- `*`
+abbrev pub asterisk : ℕ
+asterisk = 42
+
 -- `+`
 abbrev pub plus : ℕ
 plus = 43
@@ -53,6 +61,14 @@ upper_t = 84
 abbrev pub upper_z : ℕ
 upper_z = 90
 
+-- `[`
+abbrev pub opening_bracket : ℕ
+opening_bracket = 91
+
+-- `]`
+abbrev pub closing_bracket : ℕ
+closing_bracket = 93
+
 -- `a`
 abbrev pub lower_a : ℕ
 lower_a = 97
@@ -72,3 +88,7 @@ opening_brace = 123
 -- `}`
 abbrev pub closing_brace : ℕ
 closing_brace = 125
+
+-- `~`
+abbrev pub tilde : ℕ
+tilde = 126

@@ -1,4 +1,4 @@
-use Rattle.std.proofs.Common.{Err, List, Ok, Result, ap, arith, false, refl, sym, true, ℕ, ◌^◌, ◌∙◌, ◌<◌, ◌≡◌, ◌≤◌}
+use Rattle.std.proofs.Common.{ap, arith, false, refl, sym, true, ℕ, ◌^◌, ◌∙◌, ◌<◌, ◌≡◌, ◌≤◌}
 use Rattle.std.proofs.lemmas.Fmt.{parse-decimal}
 use Rattle.std.proofs.lemmas.Slice.Eq.{bytes_eq-Decides}
 use Rattle.std.specs.Fmt.{decimal}
