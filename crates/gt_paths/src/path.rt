@@ -1,5 +1,5 @@
 ghost use Rattle.std.specs.Prelude.{◌≡◌, ◌≤◌, ◌↔◌, ◌⊎◌, ◌++◌, [], length, IfErr, IfOk, IsTrue, None, OnOk, string_bytes};
-ghost use Rattle.gt_paths.specs.Path.{PathValue, IsUnder, below, child_path, is_path, is_under, overlaps, printed_path, slashed};
+ghost use Rattle.gt_paths.specs.Path.{IsUnder, PathValue, below, child_path, is_path, is_under, most_bytes, most_names, overlaps, printed_path, slashed};
 ghost use Rattle.gt_paths.specs.PathText.{limited, read_path};
 ghost use Rattle.gt_values.specs.Results.{FaultsAs};
 
@@ -180,8 +180,8 @@ impl Path {
     fn names_below(&self, folder: &Path) -> &[Name]
         requires { IsTrue (is_under self.now folder.now) }
         ensures names { result.now ≡ below self.now folder.now }
-        ensures few { length result.now ≤ 64 }
-        ensures small { length (slashed result.now) ≤ 4096 }
+        ensures few { length result.now ≤ most_names }
+        ensures small { length (slashed result.now) ≤ most_bytes }
     {
         let names = self.names.as_slice();
         let above = folder.names.as_slice();
