@@ -5,6 +5,10 @@ use Rattle.std.specs.Prelude.{ℕ}
 abbrev pub line_feed : ℕ
 line_feed = 10
 
+-- what stands before the end of a line in HTTP
+abbrev pub carriage_return : ℕ
+carriage_return = 13
+
 -- what stands between words
 abbrev pub space : ℕ
 space = 32
