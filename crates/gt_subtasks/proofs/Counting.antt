@@ -1,5 +1,5 @@
 -- Counts and sums over the rows that pass a test, after one more row and after one is written anew.
-use Rattle.std.proofs.Common.{Bool, List, None, Option, Some, [], arith, cond, false, filter, length, refl, slice_get, slice_set, suc, true, zero, ℕ, ◌*◌, ◌+◌, ◌++◌, ◌<◌, ◌^◌, ◌∷◌, ◌≡◌, ◌≤◌}
+use Rattle.std.proofs.Common.{Bool, List, Some, [], arith, cond, false, filter, length, slice_get, slice_set, suc, true, zero, ℕ, ◌+◌, ◌++◌, ◌∷◌, ◌≡◌, ◌≤◌}
 use Rattle.std.proofs.lemmas.List.Sums.{sum_by-cons}
 use Rattle.std.specs.Prelude.{sum_by}
 

@@ -1,15 +1,14 @@
 -- The numbers of a task after one more row, and after one is written anew.
-use Rattle.std.proofs.Common.{Bool, List, None, Option, Some, [], ap, arith, cond, false, filter, length, refl, slice_get, slice_set, suc, sym, true, zero, ℕ, ◌&&◌, ◌*◌, ◌+◌, ◌++◌, ◌-◌, ◌<◌, ◌==◌, ◌^◌, ◌∙◌, ◌∷◌, ◌≡◌, ◌≤◌}
+use Rattle.std.proofs.Common.{Bool, List, Some, [], ap, arith, cond, false, length, refl, slice_get, slice_set, true, ℕ, ◌&&◌, ◌*◌, ◌+◌, ◌++◌, ◌-◌, ◌<◌, ◌==◌, ◌^◌, ◌∙◌, ◌∷◌, ◌≡◌, ◌≤◌}
 use Rattle.std.specs.Prelude.{sum_by}
 use Rattle.std.proofs.lemmas.List.Sums.{sum_by-cons}
 use Rattle.gt_subtasks.specs.Counters.{count_of, sum_of}
 use Rattle.gt_subtasks.specs.Item.{is_copied, is_directory, is_file, is_in_class, is_skipped_file, items_of, size_copied}
 use Rattle.gt_subtasks.specs.Kept.{AreSmall, IsPart, IsSmall, IsWithin}
-use Rattle.gt_subtasks.specs.Tally.{bit, no_items, share_of, tally_of}
+use Rattle.gt_subtasks.specs.Tally.{bit, share_of, tally_of}
 use Rattle.gt_subtasks.specs.TallySums.{with_share, without_share}
 use Rattle.gt_subtasks.specs.declared.item.Class.TheVariants.{Canceled as CanceledClass, Expired as ExpiredClass, Failed as FailedClass, Pending as PendingClass, Retrying as RetryingClass, Skipped as SkippedClass, Succeeded as SucceededClass}
 use Rattle.gt_subtasks.specs.declared.item.Item.{Item}
-use Rattle.gt_subtasks.specs.declared.tally.Tally.{Tally}
 use Rattle.gt_subtasks.proofs.Counting.{count_part, count_push, count_set, count_within, one_if, sum_part, sum_push, sum_set}
 
 -- whether a row is of the task

@@ -1,6 +1,6 @@
 -- Items: their states, the classes in which they are counted, and what they came to.
 use Rattle.std.specs.Option.{option_map_or}
-use Rattle.std.specs.Prelude.{Bool, List, None, Option, Some, false, filter, is_some, length, true, ℕ, ◌&&◌, ◌==◌}
+use Rattle.std.specs.Prelude.{Bool, List, None, Option, Some, false, filter, is_some, true, ℕ, ◌==◌}
 use Rattle.gt_subtasks.specs.declared.item.Class.{Class}
 use Rattle.gt_subtasks.specs.declared.item.Class.TheVariants.{Canceled as CanceledClass, Expired as ExpiredClass, Failed as FailedClass, Pending as PendingClass, Retrying as RetryingClass, Skipped as SkippedClass, Succeeded as SucceededClass}
 use Rattle.gt_subtasks.specs.declared.item.How.TheVariants.{Copied as ByCopying, Expanded as ByExpanding, Present as ByPresence, Removed as ByRemoval}

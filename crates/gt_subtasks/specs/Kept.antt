@@ -1,7 +1,7 @@
 -- What the indexes of items hold.
 use Rattle.std.specs.HashMap.{HashMap, get, spare}
 use Rattle.std.specs.Ordering.{nat_cmp}
-use Rattle.std.specs.Prelude.{Bool, List, [], length, nat_eq, true, unwrap_or, ℕ, ◌+◌, ◌<◌, ◌^◌, ◌∷◌, ◌≡◌, ◌≤◌}
+use Rattle.std.specs.Prelude.{List, [], length, nat_eq, true, unwrap_or, ℕ, ◌+◌, ◌<◌, ◌^◌, ◌∷◌, ◌≡◌, ◌≤◌}
 use Rattle.gt_index.specs.Index.{IsIndex}
 use Rattle.gt_index.specs.Places.{Places}
 use Rattle.gt_subtasks.specs.Item.{size_copied}

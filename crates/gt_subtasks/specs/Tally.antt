@@ -14,9 +14,21 @@ bit b = if b then 1 else 0
 abbrev pub no_items : Tally
 no_items =
     record {
-      total = 0; pending = 0; retrying = 0; succeeded = 0; expired = 0; canceled = 0; failed = 0; skipped_errors = 0;
-      files = 0; directories = 0; files_skipped = 0; files_transferred = 0;
-      bytes_transferred = 0; bytes_checksummed = 0; faults = 0;
+      total = 0;
+      pending = 0;
+      retrying = 0;
+      succeeded = 0;
+      expired = 0;
+      canceled = 0;
+      failed = 0;
+      skipped_errors = 0;
+      files = 0;
+      directories = 0;
+      files_skipped = 0;
+      files_transferred = 0;
+      bytes_transferred = 0;
+      bytes_checksummed = 0;
+      faults = 0;
     }
 
 -- what one item adds to the numbers of its task

@@ -1,5 +1,5 @@
 -- The running numbers of a task after a change, and as they are told.
-use Rattle.std.specs.Prelude.{ℕ, ◌+◌, ◌-◌}
+use Rattle.std.specs.Prelude.{◌+◌, ◌-◌}
 use Rattle.gt_subtasks.specs.declared.tally.Tally.{Tally}
 use Rattle.gt_types.specs.declared.reply.Counters.{Counters}
 use Rattle.gt_values.specs.Capped.{capped}

@@ -124,12 +124,7 @@ impl Items {
     ///
     /// An entry of a transfer gives a transfer of a folder, of a file or of either, by its `recursive`. An entry of a
     /// deletion gives an erasure, of a file alone unless the deletion is `recursive`.
-    pub fn first_items(
-        &self,
-        alloc: Global,
-        task: u64,
-        spec: &Spec,
-    ) -> Result<Growth, AllocError>
+    pub fn first_items(&self, alloc: Global, task: u64, spec: &Spec) -> Result<Growth, AllocError>
         ensures { IfOk result (λ growth. growth
             ≡ first_items task (length self.now.rows + 1) spec.now) }
     {

@@ -26,7 +26,6 @@ pub record IsSameTask (row next : TaskRow) : Type 0 where
   pub number : next.number ≡ row.number
 
 module _ (owner submission : List ℕ) where
-
   of_test : (b : Bool) (row next : TaskRow) (rest later : Option TaskRow) → next.number ≡ row.number
       → option_map (λ r. r.number) later ≡ option_map (λ r. r.number) rest
       → option_map (λ r. r.number) (cond b (Some next) later) ≡ option_map (λ r. r.number) (cond b (Some row) rest)

@@ -112,7 +112,10 @@ impl Tasks {
         let mut row = row;
         let number = self.rows.len() as u64 + 1;
         row.number = number;
-        let found = self.found.insert((row.owner, row.submission), number).is_ok();
+        let found = self
+            .found
+            .insert((row.owner, row.submission), number)
+            .is_ok();
         prove!(found);
         self.rows.add(row);
         self.room -= 1;

@@ -1,4 +1,4 @@
-use Rattle.std.proofs.Common.{Err, Ok, Result, Some, ap, arith, cond, refl, sym, true, ℕ, ◌+◌, ◌-◌, ◌<◌, ◌∙◌, ◌≡◌, ◌≤◌}
+use Rattle.std.proofs.Common.{Err, Ok, Result, Some, ap, arith, cond, sym, true, ℕ, ◌+◌, ◌∙◌, ◌≡◌}
 use Rattle.std.specs.HashMap.{get}
 use Rattle.std.specs.Prelude.{OnOk, nat_eq}
 use Rattle.std.specs.Result.{is_ok}

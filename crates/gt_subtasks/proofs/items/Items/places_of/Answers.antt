@@ -1,6 +1,5 @@
-use Rattle.std.proofs.Common.{Bool, ap, refl, sym, true, ℕ, ◌&&◌, ◌==◌, ◌∙◌, ◌≡◌}
+use Rattle.std.proofs.Common.{ap, sym, true, ◌∙◌}
 use Rattle.std.specs.Cmp.{unsigned_ties}
-use Rattle.std.specs.Ordering.{is_eq, nat_cmp}
 use Rattle.gt_index.specs.Index.{places_where}
 use Rattle.gt_subtasks.specs.Item.{is_of_task}
 use Rattle.gt_subtasks.specs.declared.item.Item.{Item}

@@ -1,6 +1,6 @@
 use Rattle.std.specs.Prelude.{OnOk}
 use Rattle.std.specs.Result.{is_ok}
-use Rattle.std.proofs.Common.{Err, None, Ok, Result, Some, [], ap, arith, cond, length, refl, sym, true, ◌+◌, ◌++◌, ◌<◌, ◌∙◌, ◌∷◌, ◌≡◌, ◌≤◌}
+use Rattle.std.proofs.Common.{Err, None, Ok, Result, Some, ap, arith, cond, length, refl, sym, true, ◌+◌, ◌∙◌, ◌≡◌}
 use Rattle.std.proofs.lemmas.List.{length_push}
 use Rattle.gt_tasks.specs.Tasks.{is_of, number_of}
 use Rattle.gt_tasks.specs.declared.row.TaskRow.{TaskRow}

@@ -1,7 +1,4 @@
-use Rattle.std.proofs.Common.{Bool, ap, arith, length, sym, ℕ, ◌+◌, ◌<◌, ◌^◌, ◌∙◌, ◌≡◌, ◌≤◌}
-use Rattle.std.specs.HashMap.{HashMap, IsReordered, spare}
-use Rattle.gt_tasks.specs.Found.{IsFiled, Key}
-use Rattle.gt_tasks.specs.Tasks.{number_of}
+use Rattle.std.proofs.Common.{arith}
 use Rattle.gt_tasks.proofs.FoundLemmas.{filed_reserved}
 use Rattle.gt_tasks.proofs.tasks.Tasks.reserve.Goals as goal
 
