@@ -7,7 +7,7 @@ ghost use Rattle.std.specs.Prelude.{IsTrue, List, None, Some, ◌<◌, ◌^◌, 
 ghost use Rattle.transferd.specs.Endings.{read_from, written_to};
 ghost use Rattle.transferd.specs.Exits.{HasScriptCauses, exit_of_read, faults_of};
 ghost use Rattle.transferd.specs.MainTheorem.{Ran};
-ghost use Rattle.transferd.specs.World.{world_on};
+ghost use Rattle.gt_world.specs.World.{world_on};
 
 use crate::exit::Exit;
 use crate::running::run_line;
@@ -38,7 +38,8 @@ fn is_last(line: Line) -> bool
     line.is_end()
 }
 
-/// Runs the lines of a script up to its end on a desk. Each is carried out before the next is read.
+/// Runs the lines of a script up to its end on a desk. Each is carried out, by `run_line` (`running.rt`), before the next is
+/// read.
 pub fn run_script<T: Source, K: Sink, D: Disk>(
     alloc: Global,
     desk: Desk<D>,

@@ -12,7 +12,7 @@ use Rattle.transferd.proofs.script.run_script.Goals as goal
 use Rattle.transferd.specs.Endings.{Stream, read_from, written_to}
 use Rattle.transferd.specs.Progress.{IsPresent, MadeLine, StoppedLine}
 use Rattle.transferd.specs.Run.{world_at}
-use Rattle.transferd.specs.World.{World, world_on}
+use Rattle.gt_world.specs.World.{World, world_on}
 use Rattle.transferd.specs.declared.exit.Exit.TheVariants.{ScriptRefused}
 
 pub loop-taken-init : goal.loop-taken-init

@@ -3,7 +3,7 @@ use Rattle.gt_desk.specs.History.{Keeps, Stands, StandsDuring}
 use Rattle.gt_disk.specs.Disk.{DiskWords, LeavesOnly}
 use Rattle.gt_setup.specs.Setup.{Setup}
 use Rattle.std.specs.Prelude.{List, [], ◌++◌, ◌∷◌, ◌≡◌}
-use Rattle.transferd.specs.World.{Taken, World, world_after}
+use Rattle.gt_world.specs.World.{Taken, World, world_after}
 
 -- The disk goes from state to state with the steps. From a step's beginning to its end a crash leaves a file that stands for
 -- the history before the step or for the one after it, each with or without the event then in doubt; behind the last step,

@@ -5,8 +5,8 @@ use Rattle.gt_disk.specs.Disk.{DiskWords, LeavesOnly}
 use Rattle.gt_disk.specs.Moments.{joined, started, weaker}
 use Rattle.gt_setup.specs.Setup.{Setup}
 use Rattle.std.proofs.Common.{List, [], inl, ◌++◌, ◌∷◌, ℕ}
-use Rattle.transferd.specs.Crashes.{CrashesKeep}
-use Rattle.transferd.specs.World.{Taken, World, world_after}
+use Rattle.gt_world.specs.Crashes.{CrashesKeep}
+use Rattle.gt_world.specs.World.{Taken, World, world_after}
 
 module _ {D : Type 0} (words : DiskWords D) (setup : Setup) where
   -- time goes by before a run

@@ -8,8 +8,8 @@ use Rattle.gt_disk.specs.Disk.{DiskWords, LeavesOnly}
 use Rattle.gt_setup.specs.Setup.{Setup}
 use Rattle.gt_types.specs.declared.event.Event.{Event}
 use Rattle.std.proofs.Common.{List, [], ap, append-nil, append_assoc, refl, subst, sym, true, ⊎_elim, ◌++◌, ◌∙◌, ◌∷◌, ◌≡◌}
-use Rattle.transferd.specs.Crashes.{CrashesKeep, CrashesUpTo, KeepsAcknowledged}
-use Rattle.transferd.specs.World.{Ask, NoMemory, NotOpened, Quiet, Reopen, Reopened, Replied, SetMoment, Step, StepAnswer, Taken, Unavailable, World, WorldRun, WorldStep, world_after}
+use Rattle.gt_world.specs.Crashes.{CrashesKeep, CrashesUpTo, KeepsAcknowledged}
+use Rattle.gt_world.specs.World.{Ask, NoMemory, NotOpened, Quiet, Reopen, Reopened, Replied, SetMoment, Step, StepAnswer, Taken, Unavailable, World, WorldRun, WorldStep, world_after}
 
 -- the events that a step put behind the history
 abbrev Grows : List Event → List Event → Type 0

@@ -8,12 +8,10 @@ use Rattle.gt_machine.specs.Run.{run_from, run_of}
 use Rattle.gt_machine.specs.Sound.{IsSound}
 use Rattle.gt_setup.specs.Setup.{Setup}
 use Rattle.gt_types.specs.declared.event.Event.{Event}
-use Rattle.gt_types.specs.declared.reply.Reply.{Reply}
-use Rattle.std.proofs.Common.{Bool, List, Result, Some, [], append_assoc, ap, subst, sym, ⊎_elim, ◌++◌, ◌∙◌, ◌∷◌, ◌≡◌, ℕ}
+use Rattle.std.proofs.Common.{Bool, List, Some, [], subst, sym, ⊎_elim, ◌++◌, ◌∷◌, ◌≡◌, ℕ}
 use Rattle.std.specs.List.{AllByRecursion}
-use Rattle.transferd.specs.MainTheorem.{IsSoundThroughout}
-use Rattle.transferd.specs.Run.{Played, ScriptRun, steps_of, world_at}
-use Rattle.transferd.specs.World.{Ask, Asks, NoMemory, NotOpened, Quiet, Reopen, Reopened, Replied, SetMoment, Step, StepAnswer, Taken, Unavailable, World, WorldRun, WorldStep, world_after}
+use Rattle.gt_world.specs.SoundRuns.{AreSound, IsSoundThroughout}
+use Rattle.gt_world.specs.World.{Ask, NoMemory, NotOpened, Quiet, Reopen, Reopened, Replied, SetMoment, Step, StepAnswer, Taken, Unavailable, World, WorldRun, WorldStep}
 
 -- what the machine says of runs
 pub record RunLaws (setup : Setup) : Type 0 where
@@ -63,15 +61,6 @@ module _ (setup : Setup) (laws : RunLaws setup) where
         let leads = step_runs start taken.world taken.step taken.answer run.0 runs in
         (sound_throughout taken.world.ledger.history taken.world.ledger.machine leads, sound_steps taken.world rest run.1 leads)
 
-module _ (setup : Setup) (honest : Bool) where
-  -- steps behind steps
-  joined : (start : World) (steps more : List Taken) → WorldRun setup honest start steps → WorldRun setup honest (world_after start steps) more → WorldRun setup honest start (steps ++ more)
-  joined start [] more run further = further
-  joined start (taken ∷ rest) more run further = (run.0, joined taken.world rest more run.1 further)
-
-  -- the steps of all lines, and those behind them
-  pub all_steps : (start : World) (run : List Played) (last : List Taken) → ScriptRun setup honest start run → WorldRun setup honest (world_at start run) last → WorldRun setup honest start (steps_of run ++ last)
-  all_steps start [] last lines further = further
-  all_steps start (played ∷ rest) last lines further =
-      subst (λ steps. WorldRun setup honest start steps) (sym (append_assoc played.steps (steps_of rest) last))
-      (joined start played.steps (steps_of rest ++ last) lines.1 (all_steps (world_after start played.steps) rest last lines.2 further))
+    -- and each history of a run
+    pub run_is_sound : (start : World) (steps : List Taken) → WorldRun setup honest start steps → Runs start → AreSound setup start steps
+    run_is_sound start steps run runs = record { first = sound_throughout start.ledger.history start.ledger.machine runs; behind = sound_steps start steps run runs }

@@ -82,6 +82,12 @@ pub record Taken : Type 0 where
   pub answer : StepAnswer
   pub world : World
 
+-- one step, and this is said of its answer
+abbrev pub IsOneStep : Step → (StepAnswer → Type 0) → List Taken → Type 0
+IsOneStep step is [] = ⊥
+IsOneStep step is (taken ∷ []) = (taken.step ≡ step) × is taken.answer
+IsOneStep step is (taken ∷ (second ∷ rest)) = ⊥
+
 -- the world after these steps
 abbrev pub world_after : World → List Taken → World
 world_after start [] = start
