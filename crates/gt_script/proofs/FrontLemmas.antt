@@ -5,7 +5,7 @@ use Rattle.std.proofs.Common.{Bool, Err, IfErr, IfOk, IsTrue, List, Ok, Result, 
 use Rattle.gt_script.proofs.CommandLemmas.{command_plain, one_command}
 use Rattle.gt_script.proofs.ListLemmas.{no_longer, same_front}
 use Rattle.gt_script.specs.CommandLine.{IsCommandText}
-use Rattle.gt_script.specs.Reading.{BeginsCommand, BeginsNoLine, BeginsWith, BreaksOff, BreaksOffBehind, GoesOn, GoesOnNowhere, Stops, StopsBehind, TakesOneLine, TakesOneRest}
+use Rattle.gt_script.specs.Reading.{BeginsCommand, BeginsNoLine, BeginsWith, BreaksOff, BreaksOffBehind, Counts, GoesOn, GoesOnNowhere, Refuses, Stops, StopsBehind, TakesOneLine, TakesOneRest}
 use Rattle.gt_script.specs.Script.{Follows, IsTextOf, most_script_bytes}
 use Rattle.gt_script.specs.declared.command_line.CommandLine.{CommandLine}
 use Rattle.gt_script.specs.declared.line.Line.{Line}
@@ -114,17 +114,29 @@ module _ (setup : Setup) where
     line_read taken (Ok line) on = λ t. begins_with command_line before bytes behind through (first t) line after taken (on (same ∙ t))
     line_read taken (Err fault) on = tt
 
-    pub line_stopped : (r : Result Line ScriptFault) → IfErr r (λ fault. IsTrue later → StopsBehind setup command_line through behind after fault) → IfErr r (λ fault. IsTrue told → Stops setup before bytes after fault)
-    line_stopped (Ok line) stops = tt
-    line_stopped (Err Refused) stops = λ t. breaks_off command_line before bytes behind through (first t) after (stops (same ∙ t))
-    line_stopped (Err SourceFault) stops = λ t. breaks_off command_line before bytes behind through (first t) after (stops (same ∙ t))
-    line_stopped (Err OutOfMemory) stops = λ t. takes_one command_line before bytes behind through (first t) after (stops (same ∙ t))
+    -- the bytes of the command line count too
+    counts_on : (taken : ℕ) → IsTrue told → Counts through behind after taken → Counts before bytes after taken
+    counts_on taken t on =
+        let begins = first t in
+        omega (arith, on, begins.count, ap length begins.whole, length-append begins.command (10 ∷ behind))
+
+    pub line_refused : (number : ℕ) (r : Result Line ScriptFault) → IfErr r (Refuses number (IsTrue later → GoesOnNowhere setup command_line through behind)) → IfErr r (Refuses number (IsTrue told → BeginsNoLine setup before bytes))
+    line_refused number (Ok line) none = tt
+    line_refused number (Err (Refused line)) none = (none.0, λ t. no_line command_line before bytes behind through (first t) (none.1 (same ∙ t)))
+    line_refused number (Err SourceFault) none = tt
+    line_refused number (Err OutOfMemory) none = tt
+
+    pub line_stopped : (taken : ℕ) (r : Result Line ScriptFault) → IfErr r (λ fault. IsTrue later → StopsBehind setup command_line through behind after fault × Counts through behind after taken) → IfErr r (λ fault. IsTrue told → Stops setup before bytes after fault × Counts before bytes after taken)
+    line_stopped taken (Ok line) stops = tt
+    line_stopped taken (Err (Refused line)) stops = λ t. let (off, on) = stops (same ∙ t) in (breaks_off command_line before bytes behind through (first t) after off, counts_on taken t on)
+    line_stopped taken (Err SourceFault) stops = λ t. let (off, on) = stops (same ∙ t) in (breaks_off command_line before bytes behind through (first t) after off, counts_on taken t on)
+    line_stopped taken (Err OutOfMemory) stops = λ t. let (one, on) = stops (same ∙ t) in (takes_one command_line before bytes behind through (first t) after one, counts_on taken t on)
 
   -- where no whole line was taken, at most one was
   pub at_most_one : (before : ℕ) (bytes after : List ℕ) → BreaksOff setup before bytes after → TakesOneLine setup before bytes after
   at_most_one before bytes after off = record { gone = off.gone; whole = off.whole; at_most_one = λ line rest taken here. absurd (off.unfinished line rest taken here) }
 
   pub stops : (before : ℕ) (bytes after : List ℕ) (fault : ScriptFault) → BreaksOff setup before bytes after → Stops setup before bytes after fault
-  stops before bytes after Refused off = off
+  stops before bytes after (Refused line) off = off
   stops before bytes after SourceFault off = off
   stops before bytes after OutOfMemory off = at_most_one before bytes after off

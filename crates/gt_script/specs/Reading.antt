@@ -42,9 +42,19 @@ pub record TakesOneLine (setup : Setup) (before : ℕ) (bytes after : List ℕ) 
 
 -- what was taken where no line was read
 abbrev pub Stops : Setup → ℕ → List ℕ → List ℕ → ScriptFault → Type 0
-Stops setup before bytes after Refused = BreaksOff setup before bytes after
+Stops setup before bytes after (Refused line) = BreaksOff setup before bytes after
 Stops setup before bytes after SourceFault = BreaksOff setup before bytes after
 Stops setup before bytes after OutOfMemory = TakesOneLine setup before bytes after
+
+-- the count of the bytes taken, as it was before, grew by those taken
+abbrev pub Counts : ℕ → List ℕ → List ℕ → ℕ → Type 0
+Counts before bytes after taken = before + length bytes ≡ taken + length after
+
+-- a refusal names this line, and comes because of that
+abbrev pub Refuses : ℕ → Type 0 → ScriptFault → Type 0
+Refuses number because (Refused line) = (line ≡ number) × because
+Refuses number because SourceFault = Unit {0}
+Refuses number because OutOfMemory = Unit {0}
 
 -- This command line stands at the front of the bytes left, with its newline.
 pub record BeginsCommand (setup : Setup) (command_line : CommandLine) (before : ℕ) (bytes after : List ℕ) (taken : ℕ) : Type 0 where
@@ -80,7 +90,7 @@ pub record TakesOneRest (setup : Setup) (command_line : CommandLine) (before : �
 
 -- what was taken behind a command line where no line was read
 abbrev pub StopsBehind : Setup → CommandLine → ℕ → List ℕ → List ℕ → ScriptFault → Type 0
-StopsBehind setup command_line before bytes after Refused = BreaksOffBehind setup command_line before bytes after
+StopsBehind setup command_line before bytes after (Refused line) = BreaksOffBehind setup command_line before bytes after
 StopsBehind setup command_line before bytes after SourceFault = BreaksOffBehind setup command_line before bytes after
 StopsBehind setup command_line before bytes after OutOfMemory = TakesOneRest setup command_line before bytes after
 

@@ -33,9 +33,9 @@ impl Line {
 /// Why no line was read.
 #[derive(Clone, Copy, Debug, PartialEq, Eq, Error)]
 pub enum ScriptFault {
-    /// No line of a script stands there, or it doesn't end within the script's limit.
-    #[error("no line of a script stands there")]
-    Refused,
+    /// No line of a script stands at this number, or it doesn't end within the script's limit.
+    #[error("no line of a script stands at line {line}")]
+    Refused { line: u64 },
     /// The source failed, and counted it.
     #[error("the source failed")]
     SourceFault,

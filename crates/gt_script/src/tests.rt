@@ -61,7 +61,7 @@ fn next_line(
     if *taken >= SCRIPT_LIMIT {
         return Err(Fail::from("the script is at its limit"));
     }
-    Ok(read_script_line(alloc, setup, script, taken))
+    Ok(read_script_line(alloc, script, setup, 3, taken, false))
 }
 
 // The first line of a text, where so many bytes were taken before.
@@ -77,7 +77,7 @@ fn line_at(
 }
 
 fn is_refused(read: &Result<Line, ScriptFault>) -> bool {
-    matches!(read, Err(ScriptFault::Refused))
+    matches!(read, Err(ScriptFault::Refused { line: 3 }))
 }
 
 #[test]

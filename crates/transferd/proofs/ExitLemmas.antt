@@ -19,7 +19,7 @@ use Rattle.transferd.specs.Exits.{DeskExit, ExitFor, Faults, HasCauses, IsFault,
 use Rattle.transferd.specs.MainTheorem.{DeskTheorem, Ran}
 use Rattle.transferd.specs.Opening.{IsNotRead, ReadsSetup}
 use Rattle.transferd.specs.Run.{IsUnended, ReopenFails, lines_of}
-use Rattle.transferd.specs.World.{NotOpened, Reopen, Step, StepAnswer, Taken, World, WorldRun, WorldStep}
+use Rattle.gt_world.specs.World.{NotOpened, Reopen, Step, StepAnswer, Taken, World, WorldRun, WorldStep}
 use Rattle.transferd.specs.declared.exit.Exit.{Exit}
 use Rattle.transferd.specs.declared.exit.Exit.TheVariants.{Damaged, Done, JournalFault, OutOfMemory, ScriptRefused, SetupRefused, SinkFault, SourceFault}
 

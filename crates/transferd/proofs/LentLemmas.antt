@@ -4,11 +4,11 @@ use Rattle.gt_disk.specs.Disk.{DiskWords, LeavesOnly, lent as lent_words}
 use Rattle.gt_journal.specs.Opening.{HasSameBodies, OnceSynced}
 use Rattle.gt_setup.specs.Setup.{Setup}
 use Rattle.std.proofs.Common.{Bool, List, [], ap, inl, inr, ⊎_elim, ◌++◌, ◌∷◌, ℕ}
-use Rattle.transferd.specs.Crashes.{CrashesKeep, CrashesUpTo}
+use Rattle.gt_world.specs.Crashes.{CrashesKeep, CrashesUpTo}
 use Rattle.transferd.specs.Endings.{Stream}
 use Rattle.transferd.specs.MainTheorem.{DeskTheorem, NotServed, Ran, Served}
 use Rattle.transferd.specs.Run.{steps_of}
-use Rattle.transferd.specs.World.{Taken, World, world_after, world_on}
+use Rattle.gt_world.specs.World.{Taken, World, world_after, world_on}
 use Rattle.transferd.specs.declared.exit.Exit.{Exit}
 
 module _ {A B : Type 0} (at : A → B) (loan : A → ℕ) (words : DiskWords B) where
@@ -59,7 +59,6 @@ module _ {A B : Type 0} (at : A → B) (loan : A → ℕ) (words : DiskWords B) 
       opening = λ t. once old is.disk (StandsDuring setup is.found is.opened) (is.opening t);
       ran = ran _ is.disk new script out is.ran;
       sound = is.sound;
-      stays_sound = is.stays_sound;
       acknowledged = λ t before rest split.
           let (mid, up, stay) = is.acknowledged t before rest split in
           (at mid, keeps_up_to setup is.disk (world_on is.opened (words.faults (at is.disk))) before mid up, leaves mid new (Keeps setup (world_after (world_on is.opened (words.faults (at is.disk))) before).ledger.history) stay);

@@ -1,10 +1,11 @@
-mod CrashLemmas
+mod CalmLemmas
+mod CalmScriptLemmas
+mod ChainLemmas
 mod EndingLemmas
+mod Examples
 mod ExitLemmas
-mod HistoryLemmas
 mod LentLemmas
 mod MakingLemmas
 mod OpeningLemmas
 mod RunLemmas
 mod ServingLemmas
-mod StayingLemmas

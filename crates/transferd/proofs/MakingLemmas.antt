@@ -25,14 +25,15 @@ use Rattle.gt_types.specs.declared.reply.Reply.{Reply}
 use Rattle.gt_types.specs.declared.reply.Reply.TheVariants.{Refused}
 use Rattle.gt_types.specs.declared.reply.ReplyCode.TheVariants.{JournalFault as ReplyJournalFault}
 use Rattle.std.proofs.Common.{Bool, Err, IsTrue, List, None, Ok, Option, Result, Some, [], ap, append-nil, inl, inr, length, refl, subst, sym, ⊎_elim, ◌⊎◌, ◌++◌, ◌∙◌, ◌∷◌, ◌≡◌, ◌≤◌, ℕ}
-use Rattle.transferd.proofs.CrashLemmas.{crashes_step}
-use Rattle.transferd.specs.Crashes.{CrashesKeep}
+use Rattle.gt_world.specs.CrashFacts.{crashes_step}
+use Rattle.gt_world.specs.Crashes.{CrashesKeep}
 use Rattle.transferd.specs.Endings.{Stream, StopsLine, WroteNothing}
 use Rattle.transferd.specs.Exits.{exit_of_open}
-use Rattle.transferd.specs.Output.{IsPart, IsReplyTo, line_output, reply_line, restart_text, table_text}
+use Rattle.transferd.specs.Output.{IsPart, line_output, reply_line, restart_text, table_text}
 use Rattle.transferd.specs.Progress.{IsPresent, MadeLine, StoppedLine, world_of}
+use Rattle.transferd.specs.Requests.{IsReplyTo}
 use Rattle.transferd.specs.Run.{Makes, ReopenFails}
-use Rattle.transferd.specs.World.{Ask, Asks, IsDeskStep, NoMemory, NotOpened, Quiet, Reopen, Reopened, Reopens, Replied, SetMoment, StaysClosed, Step, StepAnswer, Taken, Unavailable, World, WorldRun, WorldStep, world_after}
+use Rattle.gt_world.specs.World.{Ask, Asks, IsDeskStep, NoMemory, NotOpened, Quiet, Reopen, Reopened, Reopens, Replied, SetMoment, StaysClosed, Step, StepAnswer, Taken, Unavailable, World, WorldRun, WorldStep, world_after}
 use Rattle.transferd.specs.declared.exit.Exit.{Exit}
 use Rattle.transferd.specs.declared.exit.Exit.TheVariants.{OutOfMemory, SinkFault}
 use Rattle.transferd.specs.declared.session.Session.{Session}
@@ -180,7 +181,7 @@ module _ {D : Type 0} (words : DiskWords D) (laws : DiskLaws words) where
         (new_images t) (λ c left. laws.only_now new.desk.disk c (kept.honest ∙ t) left)
 
     -- the step, and how a line with it stands
-    step_made : (step : Step) (answer : StepAnswer) (line : Line) (text : List ℕ) → Makes line (taken step answer ∷ []) → (IsDeskStep before after → WorldStep under truth before step answer after)
+    step_made : (step : Step) (answer : StepAnswer) (line : Line) (text : List ℕ) → Makes under line (taken step answer ∷ []) → (IsDeskStep before after → WorldStep under truth before step answer after)
         → line_output under before line (taken step answer ∷ []) ≡ text → MadeLine words truth under line before old.desk.disk new text
     step_made step answer line text makes is prints =
         record { steps = taken step answer ∷ []; makes = makes; run = (is is_step, tt); leads = leads_on; crashes = step_crashes step answer; prints = prints }
@@ -220,11 +221,11 @@ module _ {D : Type 0} (words : DiskWords D) (laws : DiskLaws words) where
     request_as : (r : Result Reply DeskFault) → result ≡ r → (reply : Reply) → IsReplyTo r reply
         → MadeLine words (words.honest old.desk.disk) old.desk.setup (Send identity command) (world_of words old history) old.desk.disk new (reply_line old.desk.setup reply)
     request_as (Ok said) is reply same =
-        step_made old new history later kept new_setup moment leads.history is_new during images later_runs (Ask identity command) (Replied said) (Send identity command) (reply_line old.desk.setup reply) (refl, tt)
+        step_made old new history later kept new_setup moment leads.history is_new during images later_runs (Ask identity command) (Replied said) (Send identity command) (reply_line old.desk.setup reply) (refl, refl)
         (λ step. subst (λ r. Asks old.desk.setup identity command (world_of words old history) r (world_of words new later)) is (asks step))
         (append-nil (reply_line old.desk.setup said) ∙ ap (λ r. reply_line old.desk.setup r) (sym same))
     request_as (Err DeskJournalFault) is reply same =
-        step_made old new history later kept new_setup moment leads.history is_new during images later_runs (Ask identity command) Unavailable (Send identity command) (reply_line old.desk.setup reply) (refl, tt)
+        step_made old new history later kept new_setup moment leads.history is_new during images later_runs (Ask identity command) Unavailable (Send identity command) (reply_line old.desk.setup reply) (refl, refl)
         (λ step. (subst (λ r. Asks old.desk.setup identity command (world_of words old history) r (world_of words new later)) is (asks step), cause is))
         (append-nil (reply_line old.desk.setup (Refused ReplyJournalFault)) ∙ ap (λ r. reply_line old.desk.setup r) (sym same))
     request_as (Err DeskOutOfMemory) is reply same = absurd same

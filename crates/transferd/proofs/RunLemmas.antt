@@ -2,12 +2,13 @@
 use Rattle.gt_script.specs.declared.line.Line.{Line}
 use Rattle.gt_script.specs.declared.line.Line.TheVariants.{End}
 use Rattle.gt_setup.specs.Setup.{Setup}
-use Rattle.std.proofs.Common.{Bool, List, [], ap, append-nil, append_assoc, length, refl, suc, sym, ◌++◌, ◌∙◌, ◌∷◌, ◌≡◌, ◌≢◌, ℕ}
+use Rattle.gt_world.specs.RunFacts.{run_append, world_after_append}
+use Rattle.std.proofs.Common.{Bool, List, [], ap, append-nil, append_assoc, length, refl, subst, suc, sym, ◌++◌, ◌∙◌, ◌∷◌, ◌≡◌, ◌≢◌, ℕ}
 use Rattle.transferd.specs.Output.{line_output, out_text}
 use Rattle.transferd.specs.Run.{IsUnended, Makes, Played, ScriptRun, lines_of, steps_of, world_at}
-use Rattle.transferd.specs.World.{Taken, World, WorldRun, world_after}
+use Rattle.gt_world.specs.World.{Taken, World, WorldRun, world_after}
 
-pub script_run_more : (setup : Setup) (honest : Bool) (start : World) (run : List Played) (played : Played) → ScriptRun setup honest start run → Makes played.line played.steps
+pub script_run_more : (setup : Setup) (honest : Bool) (start : World) (run : List Played) (played : Played) → ScriptRun setup honest start run → Makes setup played.line played.steps
     → WorldRun setup honest (world_at start run) played.steps → ScriptRun setup honest start (run ++ played ∷ [])
 script_run_more setup honest start [] played so_far makes steps = (makes, steps, tt)
 script_run_more setup honest start (first ∷ rest) played so_far makes steps = (so_far.0, so_far.1, script_run_more setup honest (world_after start first.steps) rest played so_far.2 makes steps)
@@ -15,10 +16,6 @@ script_run_more setup honest start (first ∷ rest) played so_far makes steps = 
 pub world_at_more : (start : World) (run : List Played) (played : Played) → world_at start (run ++ played ∷ []) ≡ world_after (world_at start run) played.steps
 world_at_more start [] played = refl
 world_at_more start (first ∷ rest) played = world_at_more (world_after start first.steps) rest played
-
-world_after_append : (start : World) (first second : List Taken) → world_after start (first ++ second) ≡ world_after (world_after start first) second
-world_after_append start [] second = refl
-world_after_append start (taken ∷ rest) second = world_after_append taken.world rest second
 
 -- the world after all steps is the one after the lines
 pub world_at_steps : (start : World) (run : List Played) → world_after start (steps_of run) ≡ world_at start run
@@ -47,3 +44,10 @@ out_text_more setup start (first ∷ rest) played =
 pub length-lines_of : (run : List Played) → length run ≡ length (lines_of run)
 length-lines_of [] = refl
 length-lines_of (first ∷ rest) = ap suc (length-lines_of rest)
+
+-- the steps of all lines, and those behind them, are one run
+pub all_steps : (setup : Setup) (honest : Bool) (start : World) (run : List Played) (last : List Taken) → ScriptRun setup honest start run → WorldRun setup honest (world_at start run) last → WorldRun setup honest start (steps_of run ++ last)
+all_steps setup honest start [] last lines further = further
+all_steps setup honest start (played ∷ rest) last lines further =
+    subst (λ steps. WorldRun setup honest start steps) (sym (append_assoc played.steps (steps_of rest) last))
+    (run_append setup honest start played.steps (steps_of rest ++ last) lines.1 (all_steps setup honest (world_after start played.steps) rest last lines.2 further))

@@ -7,24 +7,31 @@ use Rattle.gt_desk.specs.declared.fault.OpenFault.TheVariants.{Damaged, JournalF
 use Rattle.gt_desk.specs.declared.fault.OpenRefused.{OpenRefused}
 use Rattle.gt_disk.specs.Disk.{DiskWords, IsSameDisk}
 use Rattle.gt_journal.specs.Opening.{OnceSynced}
-use Rattle.gt_machine.specs.MachineState.{empty_state}
-use Rattle.gt_machine.specs.Run.{run_of}
+use Rattle.gt_machine.specs.Run.{run_from, run_of}
 use Rattle.gt_setup.specs.Setup.{Setup}
 use Rattle.gt_types.specs.declared.event.Event.{Event}
 use Rattle.std.proofs.Common.{Bool, IsTrue, List, Some, refl, subst, sym, true, ◌++◌, ◌≡◌}
-use Rattle.transferd.proofs.HistoryLemmas.{RunLaws, all_steps, sound_steps, sound_throughout}
-use Rattle.transferd.specs.Crashes.{CrashesKeep, KeepsAcknowledged}
+use Rattle.gt_machine.specs.MachineState.{MachineState, empty_state}
+use Rattle.gt_world.specs.Crashes.{CrashesKeep, KeepsAcknowledged}
 use Rattle.transferd.specs.Endings.{Stream}
 use Rattle.transferd.specs.Exits.{exit_of_open}
-use Rattle.transferd.specs.MainTheorem.{IsOpenFaultOf, IsUntouched, NotServed, Ran, Served}
-use Rattle.transferd.specs.Run.{steps_of}
-use Rattle.transferd.specs.World.{Taken, World, WorldRun, world_on}
+use Rattle.transferd.specs.MainTheorem.{NotServed, Ran, Served}
+use Rattle.transferd.specs.Opening.{IsOpenFaultOf, IsUntouched}
+use Rattle.transferd.specs.Run.{Played, ScriptRun, steps_of, world_at}
+use Rattle.gt_world.specs.SoundRuns.{AreSound}
+use Rattle.gt_world.specs.World.{Taken, World, WorldRun, world_on}
 use Rattle.transferd.specs.declared.exit.Exit.{Exit}
 
 -- what is said of runs on an honest disk
 abbrev pub StaysInRuns : {D : Type 0} → DiskWords D → Type 0
 StaysInRuns {D} words =
     (setup : Setup) (disk last : D) (start : World) (steps : List Taken) → WorldRun setup true start steps → CrashesKeep words setup disk start steps last → KeepsAcknowledged words setup disk start steps last
+
+-- what is said of all steps of a run, under this setup
+pub record RunLaws (setup : Setup) : Type 0 where
+  pub go_on : (m middle last : MachineState) (front back : List Event) → run_from setup m front ≡ Some middle → run_from setup middle back ≡ Some last → run_from setup m (front ++ back) ≡ Some last
+  pub one_run : (honest : Bool) (start : World) (run : List Played) (last : List Taken) → ScriptRun setup honest start run → WorldRun setup honest (world_at start run) last → WorldRun setup honest start (steps_of run ++ last)
+  pub sound : (honest : Bool) (start : World) (steps : List Taken) → run_of setup start.ledger.history ≡ Some start.ledger.machine → WorldRun setup honest start steps → AreSound setup start steps
 
 module _ {D : Type 0} (words : DiskWords D) (setup : Setup) (old : D) (desk : Desk D) (is : IsOpened words setup old desk) (kept : IsSameDisk words old desk.disk) (laws : RunLaws setup) where
   abbrev pub opened : List Event
@@ -49,14 +56,13 @@ module _ {D : Type 0} (words : DiskWords D) (setup : Setup) (old : D) (desk : De
     later = kept.later;
     opening = λ t. subst (λ (h : List Event). OnceSynced words old desk.disk (λ c. StandsDuring setup is.found (record desk.ledger { history = h }) c)) (is.history t) (is.crashes t);
     ran = ran;
-    sound = sound_throughout setup laws opened desk.ledger.machine opened_runs;
-    stays_sound = sound_steps setup laws (words.honest old) (world_on start (words.faults desk.disk)) (steps_of ran.run ++ ran.last)
-        (all_steps setup (words.honest old) (world_on start (words.faults desk.disk)) ran.run ran.last ran.lines ran.rest) opened_runs;
+    sound = laws.sound (words.honest old) (world_on start (words.faults desk.disk)) (steps_of ran.run ++ ran.last) opened_runs
+        (laws.one_run (words.honest old) (world_on start (words.faults desk.disk)) ran.run ran.last ran.lines ran.rest);
     acknowledged = λ t.
         let world = world_on start (words.faults desk.disk) in
         let steps = steps_of ran.run ++ ran.last in
         stays setup desk.disk new world steps
-        (subst (λ (b : Bool). WorldRun setup b world steps) t (all_steps setup (words.honest old) world ran.run ran.last ran.lines ran.rest)) (ran.crashes t);
+        (subst (λ (b : Bool). WorldRun setup b world steps) t (laws.one_run (words.honest old) world ran.run ran.last ran.lines ran.rest)) (ran.crashes t);
   }
 
 told_as : (fault : OpenFault) → IsOpenFaultOf (exit_of_open fault) fault

@@ -7,8 +7,9 @@ use Rattle.gt_setup.specs.Setup.{Setup}
 use Rattle.gt_streams.specs.Streams.{SinkWords, SourceWords}
 use Rattle.std.specs.Prelude.{Bool, IsTrue, List, [], length, ◌++◌, ◌+◌, ◌∷◌, ◌≡◌, ◌⊎◌, ℕ}
 use Rattle.transferd.specs.Output.{IsPart, line_output, out_text}
-use Rattle.transferd.specs.Run.{IsEnded, IsOneStep, IsUnended, Makes, Played, ReopenFails, lines_of, world_at}
-use Rattle.transferd.specs.World.{Ask, NoMemory, Taken, World}
+use Rattle.transferd.specs.Run.{IsEnded, IsUnended, Makes, Played, ReopenFails, lines_of, world_at}
+use Rattle.gt_world.specs.World.{Taken, World}
+use Rattle.transferd.specs.Requests.{RequestWantsMemory}
 use Rattle.transferd.specs.declared.exit.Exit.{Exit}
 use Rattle.transferd.specs.declared.exit.Exit.TheVariants.{Damaged, Done, JournalFault, OutOfMemory, ScriptRefused, SinkFault, SourceFault}
 
@@ -58,20 +59,20 @@ pub record GivesUp (setup : Setup) (start : World) (run : List Played) (last : L
 abbrev pub WroteNothing : Stream → Type 0
 WroteNothing out = IsTrue out.told → out.after ≡ out.before
 
--- the steps of a request whose caller was told that memory was wanted
-abbrev pub WantsMemory : Line → List Taken → Type 0
-WantsMemory (Send identity command) steps = IsOneStep (Ask identity command) (λ answer. answer ≡ NoMemory) steps
-WantsMemory Restart steps = ReopenFails OpenOutOfMemory steps
-WantsMemory line steps = ⊥
+-- the steps of a line that wanted memory
+abbrev pub WantsMemory : Setup → Line → List Taken → Type 0
+WantsMemory setup (Send identity command) steps = RequestWantsMemory setup identity command steps
+WantsMemory setup Restart steps = ReopenFails OpenOutOfMemory steps
+WantsMemory setup line steps = ⊥
 
 -- What a line that was read whole made and wrote before the run stopped in it. A line whose output could not be written made
 -- all its steps; a desk that was not opened again made the line's only step; where memory was wanted the line made none of
 -- its steps, or one that wanted memory, or all of them, and wrote nothing.
 abbrev pub StopsLine : Exit → Setup → World → Line → List Taken → Stream → Type 0
-StopsLine SinkFault setup start line steps out = Makes line steps × (IsTrue out.told → IsPart (line_output setup start line steps) out.before out.after)
+StopsLine SinkFault setup start line steps out = Makes setup line steps × (IsTrue out.told → IsPart (line_output setup start line steps) out.before out.after)
 StopsLine JournalFault setup start line steps out = (line ≡ Restart) × ReopenFails OpenJournalFault steps × WroteNothing out
 StopsLine (Damaged number) setup start line steps out = (line ≡ Restart) × ReopenFails (OpenDamaged number) steps × WroteNothing out
-StopsLine OutOfMemory setup start line steps out = ((steps ≡ []) ⊎ (Makes line steps ⊎ WantsMemory line steps)) × WroteNothing out
+StopsLine OutOfMemory setup start line steps out = ((steps ≡ []) ⊎ (Makes setup line steps ⊎ WantsMemory setup line steps)) × WroteNothing out
 StopsLine exit setup start line steps out = ⊥
 
 -- One more line was read, and the run stopped in it. All that the lines before it print was written.

@@ -1,10 +1,11 @@
-pub mod Crashes
+pub mod Calm
+pub mod Chain
 pub mod Endings
 pub mod Exits
 pub mod MainTheorem
 pub mod Opening
 pub mod Output
 pub mod Progress
+pub mod Requests
 pub mod Run
 pub mod Words
-pub mod World

@@ -1,44 +1,26 @@
 -- The main theorem: what a script reads, prints and keeps is that of one run of its lines through the machine, whenever it stops,
 -- and a crash at any moment leaves the run's history on the disk.
+--
+-- replies: the steps of each line are in Run.antt, those of a request in Requests.antt, and what a step does in gt_world/specs/World.antt
+-- bytes: those read and written in Endings.antt, what a line prints in Output.antt, and all of it where nothing fails in Calm.antt
+-- crash: gt_world/specs/Crashes.antt, and the next script on the disk in Chain.antt
+-- exit: how a run ends with each in Endings.antt, which one comes in Exits.antt, and a desk that isn't opened in Opening.antt
 use Rattle.gt_causes.specs.Outcomes.{NoMore}
 use Rattle.gt_desk.specs.Damage.{IsDamagedAs}
 use Rattle.gt_desk.specs.History.{Ledger, Stands, StandsDuring, StandsFor}
 use Rattle.gt_desk.specs.Opening.{Opens, opening_events}
 use Rattle.gt_desk.specs.declared.fault.OpenFault.{OpenFault}
-use Rattle.gt_desk.specs.declared.fault.OpenFault.TheVariants.{Damaged as OpenDamaged, JournalFault as OpenJournalFault, OutOfMemory as OpenOutOfMemory}
 use Rattle.gt_disk.specs.Disk.{DiskWords}
 use Rattle.gt_journal.specs.Opening.{HasSameBodies, IfSynced, OnceSynced}
-use Rattle.gt_machine.specs.MachineState.{MachineState}
-use Rattle.gt_machine.specs.Run.{run_of}
-use Rattle.gt_machine.specs.Sound.{IsSound}
 use Rattle.gt_setup.specs.Setup.{Setup}
-use Rattle.gt_types.specs.declared.event.Event.{Event}
-use Rattle.std.specs.List.{AllByRecursion}
-use Rattle.std.specs.Prelude.{Bool, IsTrue, List, Some, ◌++◌, ◌≡◌, ◌≤◌, ◌⊎◌}
-use Rattle.transferd.specs.Crashes.{CrashesKeep, KeepsAcknowledged}
+use Rattle.std.specs.Prelude.{Bool, IsTrue, List, ◌++◌, ◌≡◌, ◌≤◌, ◌⊎◌}
+use Rattle.gt_world.specs.Crashes.{CrashesKeep, KeepsAcknowledged}
 use Rattle.transferd.specs.Endings.{Stream, EndsAs}
-use Rattle.transferd.specs.Opening.{IsNotRead, IsRead}
+use Rattle.transferd.specs.Opening.{IsNotRead, IsOpenFaultOf, IsRead, IsUntouched}
 use Rattle.transferd.specs.Run.{Played, ScriptRun, steps_of, world_at}
-use Rattle.transferd.specs.World.{Taken, World, WorldRun, world_after, world_on}
+use Rattle.gt_world.specs.SoundRuns.{AreSound}
+use Rattle.gt_world.specs.World.{Taken, World, WorldRun, world_after, world_on}
 use Rattle.transferd.specs.declared.exit.Exit.{Exit}
-use Rattle.transferd.specs.declared.exit.Exit.TheVariants.{Damaged, JournalFault, OutOfMemory}
-
--- each history on the way to this one leads to a sound state
-abbrev pub IsSoundThroughout : Setup → List Event → Type 0
-IsSoundThroughout setup history =
-    (before rest : List Event) → history ≡ before ++ rest → (machine : MachineState) × (run_of setup before ≡ Some machine) × IsSound setup before machine
-
--- nothing of the script was read, and nothing written
-pub record IsUntouched (script out : Stream) : Type 0 where
-  pub unread : script.after ≡ script.before
-  pub unwritten : out.after ≡ out.before
-
--- the fault of an opening that an exit tells
-abbrev pub IsOpenFaultOf : Exit → OpenFault → Type 0
-IsOpenFaultOf JournalFault fault = fault ≡ OpenJournalFault
-IsOpenFaultOf (Damaged number) fault = fault ≡ OpenDamaged number
-IsOpenFaultOf OutOfMemory fault = fault ≡ OpenOutOfMemory
-IsOpenFaultOf exit fault = ⊥
 
 -- over a disk
 module _ {D : Type 0} (words : DiskWords D) (honest : Bool) where
@@ -71,8 +53,7 @@ module _ {D : Type 0} (words : DiskWords D) (honest : Bool) where
     pub opening : IsTrue honest → OnceSynced words old disk (StandsDuring setup found opened)
     pub ran : Ran exit setup (world_on opened (words.faults disk)) disk new script out
     -- each history of the run leads through sound states
-    pub sound : IsSoundThroughout setup opened.history
-    pub stays_sound : AllByRecursion (λ taken. IsSoundThroughout setup taken.world.ledger.history) (steps_of ran.run ++ ran.last)
+    pub sound : AreSound setup (world_on opened (words.faults disk)) (steps_of ran.run ++ ran.last)
     -- nothing acknowledged is lost, through restarts too
     pub acknowledged : IsTrue honest → KeepsAcknowledged words setup disk (world_on opened (words.faults disk)) (steps_of ran.run ++ ran.last) new
 

@@ -1,4 +1,6 @@
--- What reading a setup gives.
+-- What reading a setup gives, and what is said where no desk is opened.
+use Rattle.gt_desk.specs.declared.fault.OpenFault.{OpenFault}
+use Rattle.gt_desk.specs.declared.fault.OpenFault.TheVariants.{Damaged as OpenDamaged, JournalFault as OpenJournalFault, OutOfMemory as OpenOutOfMemory}
 use Rattle.gt_setup.specs.Grammar.{setup_of}
 use Rattle.gt_setup.specs.Setup.{Setup}
 use Rattle.gt_setup.specs.declared.fault.SetupFault.{SetupFault}
@@ -6,7 +8,7 @@ use Rattle.std.specs.Prelude.{Err, IsTrue, List, Ok, ◌++◌, ◌≡◌, ℕ}
 use Rattle.transferd.specs.Endings.{Stream}
 use Rattle.transferd.specs.Exits.{setup_read}
 use Rattle.transferd.specs.declared.exit.Exit.{Exit}
-use Rattle.transferd.specs.declared.exit.Exit.TheVariants.{OutOfMemory, SetupRefused, SourceFault}
+use Rattle.transferd.specs.declared.exit.Exit.TheVariants.{Damaged, JournalFault, OutOfMemory, SetupRefused, SourceFault}
 
 -- of a setup's source these bytes were read
 pub record ReadsSetup (source : Stream) (bytes : List ℕ) : Type 0 where
@@ -31,3 +33,15 @@ IsNotRead source (SetupRefused fault) = RefusesSetup fault source
 IsNotRead source SourceFault = Unit {0}
 IsNotRead source OutOfMemory = Unit {0}
 IsNotRead source exit = ⊥
+
+-- nothing of the script was read, and nothing written
+pub record IsUntouched (script out : Stream) : Type 0 where
+  pub unread : script.after ≡ script.before
+  pub unwritten : out.after ≡ out.before
+
+-- the fault of an opening that an exit tells
+abbrev pub IsOpenFaultOf : Exit → OpenFault → Type 0
+IsOpenFaultOf JournalFault fault = fault ≡ OpenJournalFault
+IsOpenFaultOf (Damaged number) fault = fault ≡ OpenDamaged number
+IsOpenFaultOf OutOfMemory fault = fault ≡ OpenOutOfMemory
+IsOpenFaultOf exit fault = ⊥

@@ -1,22 +1,19 @@
 -- What a run prints.
 use Rattle.gt_machine.specs.TaskLine.{task_lines}
 use Rattle.gt_machine.specs.declared.line.TaskLine.{TaskLine}
-use Rattle.gt_replies.specs.ReplyText.{reply_status, reply_text}
-use Rattle.gt_desk.specs.declared.fault.DeskFault.{DeskFault}
-use Rattle.gt_desk.specs.declared.fault.DeskFault.TheVariants.{JournalFault as DeskJournalFault, OutOfMemory}
 use Rattle.gt_setup.specs.Setup.{Setup}
 use Rattle.gt_types.specs.declared.code.Status.{Status}
 use Rattle.gt_types.specs.declared.code.Status.TheVariants.{Active, Failed, Succeeded}
 use Rattle.gt_script.specs.declared.line.Line.{Line}
 use Rattle.gt_script.specs.declared.line.Line.TheVariants.{End, Now, Restart, Send}
 use Rattle.gt_types.specs.declared.reply.Reply.{Reply}
-use Rattle.gt_types.specs.declared.reply.Reply.TheVariants.{Refused}
-use Rattle.gt_types.specs.declared.reply.ReplyCode.TheVariants.{JournalFault}
 use Rattle.std.specs.Fmt.{decimal}
 use Rattle.std.specs.List.{flat_map}
-use Rattle.std.specs.Prelude.{Bool, Err, List, Ok, Result, [], codes, if◌then◌else◌, length, take, ◌++◌, ◌<◌, ◌∷◌, ◌≡◌, ℕ}
+use Rattle.std.specs.Option.{option_map_or}
+use Rattle.std.specs.Prelude.{Bool, List, [], codes, if◌then◌else◌, length, take, ◌++◌, ◌<◌, ◌∷◌, ◌≡◌, ℕ}
+use Rattle.transferd.specs.Requests.{Response, response_in, response_of}
 use Rattle.transferd.specs.Run.{Played}
-use Rattle.transferd.specs.World.{Replied, StepAnswer, Taken, Unavailable, World, world_after}
+use Rattle.gt_world.specs.World.{StepAnswer, Taken, World, world_after}
 
 -- some bytes at the front of a text were written behind those before, and not all
 pub record IsPart (text before after : List ℕ) : Type 0 where
@@ -67,23 +64,19 @@ end_text world =
 abbrev pub restart_text : ℕ → List ℕ
 restart_text events = codes "restart " ++ (decimal events ++ 10 ∷ [])
 
--- what a reply prints: `reply STATUS LENGTH`, and its body on a line
+-- what a response prints: `reply STATUS LENGTH`, and its body on a line
+abbrev pub response_text : Response → List ℕ
+response_text response =
+    codes "reply " ++ (decimal response.status ++ (codes " " ++ (decimal (length response.body) ++ 10 ∷ [])))
+    ++ response.body ++ 10 ∷ []
+
+-- what a reply prints
 abbrev pub reply_line : Setup → Reply → List ℕ
-reply_line setup reply =
-    codes "reply " ++ (decimal (reply_status reply) ++ (codes " " ++ (decimal (length (reply_text setup reply)) ++ 10 ∷ [])))
-    ++ reply_text setup reply ++ 10 ∷ []
+reply_line setup reply = response_text (response_of setup reply)
 
--- the reply to a request, by the desk's result; none where memory was wanted
-abbrev pub IsReplyTo : Result Reply DeskFault → Reply → Type 0
-IsReplyTo (Ok said) reply = reply ≡ said
-IsReplyTo (Err DeskJournalFault) reply = reply ≡ Refused JournalFault
-IsReplyTo (Err OutOfMemory) reply = ⊥
-
--- what a request prints, by what it was told
+-- what a request prints, by what its step was told
 abbrev pub answer_text : Setup → StepAnswer → List ℕ
-answer_text setup (Replied reply) = reply_line setup reply
-answer_text setup Unavailable = reply_line setup (Refused JournalFault)
-answer_text setup answer = []
+answer_text setup answer = option_map_or response_text (response_in setup answer) []
 
 -- what a line prints, by its steps from the world before it
 abbrev pub line_output : Setup → World → Line → List Taken → List ℕ

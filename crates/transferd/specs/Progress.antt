@@ -10,11 +10,11 @@ use Rattle.gt_setup.specs.Setup.{Setup}
 use Rattle.gt_streams.specs.Streams.{SinkWords}
 use Rattle.gt_types.specs.declared.event.Event.{Event}
 use Rattle.std.specs.Prelude.{Bool, Err, IsTrue, List, Ok, Result, Some, length, ◌++◌, ◌≡◌, ◌≢◌, ℕ}
-use Rattle.transferd.specs.Crashes.{CrashesKeep}
+use Rattle.gt_world.specs.Crashes.{CrashesKeep}
 use Rattle.transferd.specs.Endings.{Stream, StopsLine}
 use Rattle.transferd.specs.Output.{line_output, out_text}
 use Rattle.transferd.specs.Run.{IsUnended, Makes, Played, ScriptRun, lines_of, steps_of, world_at}
-use Rattle.transferd.specs.World.{Taken, World, WorldRun, world_after}
+use Rattle.gt_world.specs.World.{Taken, World, WorldRun, world_after}
 use Rattle.transferd.specs.declared.exit.Exit.{Exit}
 use Rattle.transferd.specs.declared.exit.Exit.TheVariants.{JournalFault, SinkFault}
 use Rattle.transferd.specs.declared.session.Ended.{Ended}
@@ -61,7 +61,7 @@ module _ {D : Type 0} (words : DiskWords D) (honest : Bool) where
   -- a whole line: its steps, the session that they lead to, what a crash leaves meanwhile, and what it prints
   pub record MadeLine (setup : Setup) (line : Line) (start : World) (old : D) (session : Session D) (text : List ℕ) : Type 0 where
     pub steps : List Taken
-    pub makes : Makes line steps
+    pub makes : Makes setup line steps
     pub run : WorldRun setup honest start steps
     pub leads : IsPresent setup (world_after start steps) session
     pub crashes : IsTrue honest → CrashesKeep words setup old start steps session.desk.disk

@@ -5,31 +5,20 @@ use Rattle.gt_script.specs.declared.line.Line.TheVariants.{End, Now, Restart, Se
 use Rattle.gt_setup.specs.Setup.{Setup}
 use Rattle.std.specs.List.{AllByRecursion, flat_map}
 use Rattle.std.specs.Prelude.{Bool, List, [], map, ◌++◌, ◌∷◌, ◌≡◌, ◌≢◌}
-use Rattle.transferd.specs.World.{Ask, NotOpened, Quiet, Reopen, Reopened, Replied, SetMoment, Step, Taken, StepAnswer, Unavailable, World, WorldRun, world_after}
+use Rattle.gt_world.specs.World.{IsOneStep, NotOpened, Quiet, Reopen, Reopened, SetMoment, Taken, World, WorldRun, world_after}
+use Rattle.transferd.specs.Requests.{MakesRequest}
 
 -- a line that was carried out, and the steps that it made
 pub record Played : Type 0 where
   pub line : Line
   pub steps : List Taken
 
--- one step, and this is said of its answer
-abbrev pub IsOneStep : Step → (StepAnswer → Type 0) → List Taken → Type 0
-IsOneStep step is [] = ⊥
-IsOneStep step is (taken ∷ []) = (taken.step ≡ step) × is taken.answer
-IsOneStep step is (taken ∷ (second ∷ rest)) = ⊥
-
--- a request has its reply, or was told that the journal failed
-abbrev pub IsAnswer : StepAnswer → Type 0
-IsAnswer (Replied reply) = Unit {0}
-IsAnswer Unavailable = Unit {0}
-IsAnswer answer = ⊥
-
 -- the steps of a whole line
-abbrev pub Makes : Line → List Taken → Type 0
-Makes End steps = steps ≡ []
-Makes (Now moment) steps = IsOneStep (SetMoment moment) (λ answer. answer ≡ Quiet) steps
-Makes (Send identity command) steps = IsOneStep (Ask identity command) IsAnswer steps
-Makes Restart steps = IsOneStep Reopen (λ answer. answer ≡ Reopened) steps
+abbrev pub Makes : Setup → Line → List Taken → Type 0
+Makes setup End steps = steps ≡ []
+Makes setup (Now moment) steps = IsOneStep (SetMoment moment) (λ answer. answer ≡ Quiet) steps
+Makes setup (Send identity command) steps = MakesRequest setup identity command steps
+Makes setup Restart steps = IsOneStep Reopen (λ answer. answer ≡ Reopened) steps
 
 -- the desk was not opened again, for this fault
 abbrev pub ReopenFails : OpenFault → List Taken → Type 0
@@ -39,7 +28,7 @@ ReopenFails fault steps = IsOneStep Reopen (λ answer. answer ≡ NotOpened faul
 abbrev pub ScriptRun : Setup → Bool → World → List Played → Type 0
 ScriptRun setup honest start [] = Unit {0}
 ScriptRun setup honest start (played ∷ rest) =
-    Makes played.line played.steps × WorldRun setup honest start played.steps × ScriptRun setup honest (world_after start played.steps) rest
+    Makes setup played.line played.steps × WorldRun setup honest start played.steps × ScriptRun setup honest (world_after start played.steps) rest
 
 -- the world after these lines
 abbrev pub world_at : World → List Played → World

@@ -5,8 +5,8 @@ ghost use Rattle.gt_script.specs.declared.line.Line.TheVariants.{End, Now, Resta
 ghost use Rattle.gt_desk.specs.declared.fault.DeskFault.TheVariants.{OutOfMemory};
 ghost use Rattle.gt_types.specs.Reply.{is_printable};
 ghost use Rattle.std.specs.Prelude.{Err, IfErr, IfOk, IfSome, IsTrue, None, ℕ, ◌≡◌};
-ghost use Rattle.transferd.specs.Output.{IsReplyTo};
 ghost use Rattle.transferd.specs.Progress.{HasMakingCause, MakesLine, disk_of_made};
+ghost use Rattle.transferd.specs.Requests.{IsReplyTo};
 
 use crate::exit::Exit;
 use crate::printing::{reply_line, restart_line, table};
@@ -21,7 +21,7 @@ use std::alloc::Global;
 
 /// Carries out a line, and makes the text that it prints.
 ///
-/// What the line makes of the world, by the kinds of lines: `specs/World.antt` and `specs/Run.antt`.
+/// What the line makes of the world, by the kinds of lines: `specs/Run.antt`, and of a request `specs/Requests.antt`.
 pub fn make_line<D: Disk>(
     alloc: Global,
     session: Session<D>,
@@ -89,7 +89,7 @@ fn reply_to(answer: Result<Reply, DeskFault>) -> Option<Reply>
     }
 }
 
-// Answers a request, by `Desk::answer`.
+// Answers a request, by `Desk::answer` (`gt_desk/src/desk.rt`).
 fn make_request<D: Disk>(
     alloc: Global,
     session: Session<D>,

@@ -14,7 +14,7 @@ use gt_script::Line;
 use gt_streams::{Sink, write_all};
 use std::alloc::Global;
 
-/// Carries out a line, and then writes what it prints.
+/// Carries out a line, by `make_line` (`making.rt`), and then writes what it prints.
 pub fn run_line<D: Disk, K: Sink>(
     alloc: Global,
     session: Session<D>,

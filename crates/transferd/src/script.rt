@@ -7,7 +7,7 @@ ghost use Rattle.std.specs.Prelude.{IsTrue, List, None, Some, ◌<◌, ◌^◌, 
 ghost use Rattle.transferd.specs.Endings.{read_from, written_to};
 ghost use Rattle.transferd.specs.Exits.{HasScriptCauses, exit_of_read, faults_of};
 ghost use Rattle.transferd.specs.MainTheorem.{Ran};
-ghost use Rattle.transferd.specs.World.{world_on};
+ghost use Rattle.gt_world.specs.World.{world_on};
 
 use crate::exit::Exit;
 use crate::running::run_line;
@@ -19,13 +19,12 @@ use gt_streams::{Sink, Source};
 use gt_values::Moment;
 use std::alloc::Global;
 
-// The exit where no line was read behind so many.
-fn exit_of_reading(fault: ScriptFault, ran: u64) -> Exit
-    requires { ran < 2 ^ 63 }
-    ensures { result ≡ exit_of_read fault ran }
+// The exit where no line was read.
+fn exit_of_reading(fault: ScriptFault) -> Exit
+    ensures { result ≡ exit_of_read fault }
 {
     match fault {
-        ScriptFault::Refused => Exit::ScriptRefused { line: ran + 1 },
+        ScriptFault::Refused { line } => Exit::ScriptRefused { line },
         ScriptFault::SourceFault => Exit::SourceFault,
         ScriptFault::OutOfMemory => Exit::OutOfMemory,
     }
@@ -38,7 +37,8 @@ fn is_last(line: Line) -> bool
     line.is_end()
 }
 
-/// Runs the lines of a script up to its end on a desk. Each is carried out before the next is read.
+/// Runs the lines of a script up to its end on a desk. Each is carried out, by `run_line` (`running.rt`), before the next is
+/// read.
 pub fn run_script<T: Source, K: Sink, D: Disk>(
     alloc: Global,
     desk: Desk<D>,
@@ -67,9 +67,16 @@ pub fn run_script<T: Source, K: Sink, D: Disk>(
     let mut taken = 0;
     let mut ran = 0;
     while taken < SCRIPT_LIMIT {
-        let line = match read_script_line(alloc, session.desk.setup(), script, &mut taken) {
+        let line = match read_script_line(
+            alloc,
+            script,
+            session.desk.setup(),
+            ran + 1,
+            &mut taken,
+            ran > 0,
+        ) {
             Ok(line) => line,
-            Err(fault) => return stop(session.desk, exit_of_reading(fault, ran)),
+            Err(fault) => return stop(session.desk, exit_of_reading(fault)),
         };
         match run_line(alloc, session, &line, out) {
             Ok(next) => session = next,

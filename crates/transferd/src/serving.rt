@@ -5,17 +5,19 @@ ghost use Rattle.transferd.specs.Exits.{HasScriptCauses, faults_of};
 ghost use Rattle.transferd.specs.MainTheorem.{DeskTheorem};
 
 use crate::exit::Exit;
-use crate::laws::acknowledged_events_stay_in_a_run;
+use crate::laws::lines_make_one_run;
 use crate::script::run_script;
 use crate::session::Ended;
 use gt_desk::Desk;
 use gt_disk::Disk;
-use gt_machine::{runs_are_sound, runs_go_on, runs_have_fronts};
+use gt_machine::runs_go_on;
 use gt_setup::Setup;
 use gt_streams::{Sink, Source};
+use gt_world::{acknowledged_events_stay_in_a_run, histories_of_a_run_are_sound};
 use std::alloc::Global;
 
-/// Opens the desk on the disk of its journal, by `Desk::open`, and runs the lines of a script on it.
+/// Opens the desk on the disk of its journal, by `Desk::open`, and runs the lines of a script on it, by `run_script`
+/// (`script.rt`).
 pub fn serve_script<T: Source, K: Sink, D: Disk>(
     alloc: Global,
     setup: Setup,
@@ -35,9 +37,9 @@ pub fn serve_script<T: Source, K: Sink, D: Disk>(
     match Desk::open(alloc, setup, disk) {
         Ok(desk) => {
             // For the proof: each history of the run leads through sound states, and nothing acknowledged is lost.
-            runs_are_sound();
             runs_go_on();
-            runs_have_fronts();
+            lines_make_one_run();
+            histories_of_a_run_are_sound();
             acknowledged_events_stay_in_a_run::<D>();
             run_script(alloc, desk, script, out)
         }

@@ -3,7 +3,8 @@ use Rattle.gt_script.specs.declared.line.Line.TheVariants.{Send}
 use Rattle.std.proofs.Common.{Err, refl, rules, subst, sym, ◌≡◌}
 use Rattle.transferd.proofs.MakingLemmas.{not_printed, request_made, request_stopped}
 use Rattle.transferd.proofs.making.make_request.Goals as goal
-use Rattle.transferd.specs.Output.{IsReplyTo, reply_line}
+use Rattle.transferd.specs.Output.{reply_line}
+use Rattle.transferd.specs.Requests.{IsReplyTo}
 use Rattle.transferd.specs.Progress.{MadeLine}
 
 pub returns-in_default-clause-made : goal.returns-in_default-clause-made

@@ -7,7 +7,7 @@ use Rattle.std.proofs.Common.{IsTrue, List, Some, ◌-◌, ◌≡◌, ◌≤◌}
 use Rattle.transferd.proofs.script.run_script.Given as goal
 use Rattle.transferd.specs.Endings.{read_from, written_to}
 use Rattle.transferd.specs.Progress.{Progress}
-use Rattle.transferd.specs.World.{world_on}
+use Rattle.gt_world.specs.World.{world_on}
 
 abbrev pub invariant-loop-taken : goal.invariant-loop-taken
 invariant-loop-taken g l = record {

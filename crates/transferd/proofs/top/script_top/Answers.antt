@@ -1,9 +1,13 @@
-use Rattle.std.proofs.Common.{Err, ap, arith, inl, inr, length, refl, rules, subst, ◌<◌, ◌^◌, ◌≡◌}
+use Rattle.gt_setup.specs.Grammar.{setup_of}
+use Rattle.std.proofs.Common.{Err, Ok, ap, arith, inl, inr, length, refl, rules, subst, ◌<◌, ◌^◌, ◌≡◌}
+use Rattle.transferd.proofs.CalmLemmas.{NotRose}
+use Rattle.transferd.proofs.CalmScriptLemmas.{calm_script_served}
 use Rattle.transferd.proofs.ExitLemmas.{complete_exit, exit_of_desk, exit_under_setup, exit_without_setup}
 use Rattle.transferd.proofs.LentLemmas.{lent}
 use Rattle.transferd.proofs.top.script_top.Goals as goal
+use Rattle.transferd.specs.Calm.{IsCalm}
 use Rattle.transferd.specs.Endings.{Stream, read_from, written_to}
-use Rattle.transferd.specs.Exits.{HasCauses, faults_of}
+use Rattle.transferd.specs.Exits.{HasCauses, faults_of, setup_read}
 use Rattle.transferd.specs.MainTheorem.{MainTheorem}
 use Rattle.transferd.specs.Opening.{IsNotRead}
 
@@ -68,3 +72,23 @@ returns-in-Ok-clause-same g c =
     let w = g.D.Disk.words in
     let ends = c.serve_script-ended.ensures in
     (c.read_setup.ensures.same, ends.same_script, ends.same_out, subst (λ new. w.honest new ≡ w.honest c.args.disk.now) (search rules) ends.same.honest)
+
+pub returns-in-Ok-clause-calm : goal.returns-in-Ok-clause-calm
+returns-in-Ok-clause-calm g c done seen told out_told honest none =
+    let w = g.D.Disk.words in
+    let old = c.args.disk.now in
+    let ended = c.serve_script-ended.result in
+    let source : Stream = read_from g.S.Source.words c.args.setup.now c.read_setup.new.source in
+    let script : Stream = read_from g.T.Source.words c.args.script.now c.serve_script-ended.new.script in
+    let out : Stream = written_to g.K.Sink.words c.args.out.now c.serve_script-ended.new.out in
+    let opened = c.in-Ok.opened in
+    let setup = c.in-Ok.ensures.ok in
+    let read : setup_of (setup_read source.before) ≡ Ok opened = subst (λ b. setup_of b ≡ Ok opened) (setup.read.all seen) setup.stands in
+    let holds = lent (λ a. a.now) (λ a. a.ghost_name) w (w.honest old) ended.exit opened _ ended.disk script out c.serve_script-ended.ensures.theorem in
+    subst (λ new. NotRose (w.faults old) (w.faults new) → IsCalm w source old new script out) (search rules)
+    (λ quiet. calm_script_served w (w.honest old) opened (c.runs_go_on.ensures.run opened) (c.runs_without_faults_are_calm.ensures opened) source read ended.exit done old ended.disk.now script out told out_told honest quiet holds) none
+
+pub returns-in-Err-clause-calm : goal.returns-in-Err-clause-calm
+returns-in-Err-clause-calm g c done seen told out_told honest none =
+    let source : Stream = read_from g.S.Source.words c.args.setup.now c.read_setup.new.source in
+    absurd (subst (λ e. IsNotRead source e) done c.in-Err.ensures.err)

@@ -1,0 +1,65 @@
+ghost use Rattle.std.specs.Prelude.{◌≡◌, ◌≤◌};
+ghost use Rattle.gt_causes.specs.Causes.{Rose};
+ghost use Rattle.gt_causes.specs.Counts.{counted};
+
+use gt_causes::Failed;
+use std::io::{self, Cursor, Write};
+
+// So many faults of a device are said.
+const SAID: u64 = 100;
+
+// The longest text of a fault, in bytes: a path has 4,096.
+const ROOM: usize = 5_000;
+
+/// The faults of a device: their count, and the name by which a person knows the device.
+#[derive(Drop)]
+pub(crate) struct Faults {
+    name: String,
+    count: u64,
+}
+
+impl Faults {
+    pub(crate) fn new(name: String) -> Faults
+        ensures { result.count ≡ 0 }
+    {
+        Faults { name, count: 0 }
+    }
+
+    pub(crate) fn count(&self) -> u64
+        ensures { result ≡ self.now.count }
+    {
+        self.count
+    }
+
+    /// Counts a fault. The first hundred are said on standard error.
+    pub(crate) fn add(&mut self, operation: &str, reason: io::Error) -> Failed
+        ensures value { self.new.count ≡ counted self.old.count }
+        ensures same { self.old.count ≤ self.new.count }
+        ensures cause { Rose self.old.count self.new.count }
+    {
+        if self.count < SAID {
+            say_fault(&self.name, operation, reason);
+        }
+        self.count = self.count.saturating_add(1);
+        Failed
+    }
+}
+
+// Says a fault in one write, so that two devices don't mix their lines. That standard error fails is let pass.
+fn say_fault(name: &str, operation: &str, reason: io::Error) {
+    let mut line = Cursor::new([0u8; ROOM]);
+    let _ = write_fault(&mut line, name, operation, reason);
+    let length = (line.position() as usize).min(ROOM);
+    let text = line.into_inner();
+    let _ = os::write_no_sigpipe(libc::STDERR_FILENO, &text[..length]);
+}
+
+/// The line that says a fault: the device, the operation, and the system's reason.
+pub(crate) fn write_fault<W: Write>(
+    to: &mut W,
+    name: &str,
+    operation: &str,
+    reason: io::Error,
+) -> io::Result<()> {
+    writeln!(to, "transferd: {name}: {operation} failed: {reason}")
+}

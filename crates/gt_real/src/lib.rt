@@ -1,0 +1,19 @@
+//! The real devices: a journal's file, standard streams and files as streams.
+//!
+//! Each is made with the name by which a person knows it, counts its faults, and says the first hundred of them on
+//! standard error (`src/faults.rt`). None tells what it holds: of each it is proved that a call fails exactly where its
+//! count rises by one (`specs/Faults.antt`).
+#![tactic(auto)]
+
+mod crossing;
+mod faults;
+mod file_disk;
+mod std_sink;
+mod std_source;
+#[cfg(test)]
+mod tests;
+
+pub use crossing::{send_disk, send_sink, send_source};
+pub use file_disk::{FileDisk, FileFault};
+pub use std_sink::StdSink;
+pub use std_source::StdSource;

@@ -1,0 +1,5 @@
+pub mod CrashFacts
+pub mod Crashes
+pub mod RunFacts
+pub mod SoundRuns
+pub mod World

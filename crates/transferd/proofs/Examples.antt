@@ -1,0 +1,112 @@
+-- Computed examples of what lines print and add where nothing fails, and of the tables of steps, outputs and exits.
+use Rattle.gt_desk.specs.History.{Ledger}
+use Rattle.gt_machine.specs.MachineState.{empty_state}
+use Rattle.gt_machine.specs.declared.line.TaskLine.{TaskLine}
+use Rattle.gt_script.specs.declared.line.Line.{Line}
+use Rattle.gt_script.specs.declared.line.Line.TheVariants.{End, Now, Restart, Send}
+use Rattle.gt_setup.specs.Setup.{Setup}
+use Rattle.gt_types.specs.declared.code.Status.TheVariants.{Succeeded}
+use Rattle.gt_types.specs.declared.command.Command.TheVariants.{IssueId}
+use Rattle.gt_types.specs.declared.event.Event.{Event}
+use Rattle.gt_types.specs.declared.event.Happening.TheVariants.{Issue}
+use Rattle.gt_types.specs.declared.reply.Counters.{Counters}
+use Rattle.gt_types.specs.declared.reply.Reply.TheVariants.{Identifier}
+use Rattle.gt_world.specs.World.{NoMemory, Quiet, SetMoment, Taken, World, world_on}
+use Rattle.std.proofs.Common.{List, None, [], refl, ◌++◌, ◌∷◌, ◌≡◌, ℕ}
+use Rattle.std.specs.Fmt.{digits}
+use Rattle.std.specs.Prelude.{codes, true}
+use Rattle.transferd.specs.Calm.{calm, calm_script}
+use Rattle.transferd.specs.Exits.{status_of}
+use Rattle.transferd.specs.Output.{answer_text, line_output, reply_line, restart_text, task_text}
+use Rattle.transferd.specs.Run.{Makes}
+use Rattle.transferd.specs.declared.exit.Exit.TheVariants.{Damaged, Done, JournalFault, OutOfMemory, ScriptRefused, SinkFault, SourceFault, Usage}
+
+abbrev ann : List ℕ
+ann = 0 ∷ 0 ∷ 0 ∷ 0 ∷ 0 ∷ 0 ∷ 64 ∷ 0 ∷ 128 ∷ 0 ∷ 0 ∷ 0 ∷ 0 ∷ 0 ∷ 0 ∷ 161 ∷ []
+
+-- one identity, no collection
+abbrev setup : Setup
+setup = record {
+  namespace = 7;
+  identities = (record { who = record { identity = ann; groups = [] }; name = []; tokens = [] }) ∷ [];
+  collections = [];
+}
+
+-- an end of an empty desk, also at another moment
+pub empty_end : calm_script setup [] (End ∷ []) ≡ (codes "end 0 0" ++ 10 ∷ [], [])
+unfolding digits
+empty_end = refl
+
+pub later_end : calm_script setup [] (Now 1700000000 ∷ End ∷ []) ≡ (codes "end 0 0" ++ 10 ∷ [], [])
+unfolding digits
+later_end = refl
+
+abbrev issued : ℕ → Event
+issued moment = record { moment = moment; what = Issue ann }
+
+-- two identifiers, the second at an earlier moment, which doesn't take the event back; a restart keeps both
+pub identifiers :
+    calm_script setup [] (Now 100 ∷ Send ann IssueId ∷ Now 50 ∷ Send ann IssueId ∷ Restart ∷ End ∷ [])
+    ≡ (reply_line setup (Identifier 1) ++ (reply_line setup (Identifier 2) ++ (codes "restart 2" ++ 10 ∷ (codes "end 2 0" ++ 10 ∷ []))), issued 100 ∷ issued 100 ∷ [])
+unfolding digits
+identifiers = refl
+
+-- a script on a history goes on from there
+pub on_a_history : calm_script setup (issued 100 ∷ []) (Send ann IssueId ∷ End ∷ []) ≡ (reply_line setup (Identifier 2) ++ (codes "end 2 0" ++ 10 ∷ []), issued 100 ∷ [])
+unfolding digits
+on_a_history = refl
+
+-- a task's line shows ten of its counters
+pub task_line :
+    task_text (record {
+      number = 3;
+      is_delete = true;
+      status = Succeeded;
+      counters = record {
+        total = 1;
+        pending = 2;
+        retrying = 3;
+        succeeded = 4;
+        expired = 5;
+        canceled = 6;
+        failed = 7;
+        skipped_errors = 8;
+        files = 90;
+        directories = 91;
+        files_skipped = 92;
+        files_transferred = 9;
+        bytes_transferred = 10;
+        bytes_checksummed = 93;
+        faults = 94;
+      };
+    })
+    ≡ codes "task 3 DELETE SUCCEEDED 1 2 3 4 5 6 7 8 9 10" ++ 10 ∷ []
+unfolding digits
+task_line = refl
+
+pub restart_line : restart_text 12 ≡ codes "restart 12" ++ 10 ∷ []
+unfolding digits
+restart_line = refl
+
+-- a request for which memory was wanted prints nothing
+pub no_memory_prints_nothing : answer_text setup NoMemory ≡ []
+no_memory_prints_nothing = refl
+
+abbrev start : World
+start = world_on (record { history = []; machine = empty_state 7; doubt = None }) 0
+
+abbrev set : Taken
+set = record { step = SetMoment 100; answer = Quiet; world = record start { moment = 100 } }
+
+-- a moment is one step, and prints nothing
+pub now_makes : Makes setup (Now 100) (set ∷ [])
+now_makes = (refl, refl)
+
+pub end_makes_nothing : Makes setup End (set ∷ []) → ⊥
+end_makes_nothing is = cc is
+
+-- the statuses of a process
+pub statuses :
+    (status_of Done ∷ status_of Usage ∷ status_of (ScriptRefused 1) ∷ status_of SourceFault ∷ status_of SinkFault ∷ status_of JournalFault ∷ status_of (Damaged 0) ∷ status_of OutOfMemory ∷ [])
+    ≡ 0 ∷ 2 ∷ 4 ∷ 5 ∷ 6 ∷ 7 ∷ 8 ∷ 9 ∷ []
+statuses = refl
