@@ -38,13 +38,15 @@ places_from place test [] = []
 places_from place test (row ∷ rows) =
     cond (test row) (place ∷ places_from (place + 1) test rows) (places_from (place + 1) test rows)
 
+-- the places of the rows that pass, in order
 abbrev pub places_where : {R : Type 0} → (R → Bool) → List R → List ℕ
 places_where test rows = places_from 0 test rows
 
--- whether the row has the key, and whether its key is at least this
+-- whether the row has the key
 abbrev pub has_key : {R K : Type 0} → (K → K → Ordering) → (R → K) → K → R → Bool
 has_key cmp key k row = is_eq (cmp (key row) k)
 
+-- whether the row's key is at least this
 abbrev pub is_from : {R K : Type 0} → (K → K → Ordering) → (R → K) → K → R → Bool
 is_from cmp key k row = not (is_lt (cmp (key row) k))
 

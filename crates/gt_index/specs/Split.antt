@@ -12,10 +12,11 @@ pub record IsSplit (test : ℕ → Bool) (places : List ℕ) (at : ℕ) : Type 0
   pub front : IsTrue (list_all test (take at places))
   pub rest : IsTrue (list_all (λ place. not (test place)) (drop at places))
 
--- whether a place is below the key, and whether it isn't above
+-- whether a place is below the key
 abbrev pub is_below : {K : Type 0} → (K → K → Ordering) → (ℕ → Option K) → K → ℕ → Bool
 is_below cmp key k place = is_lt (option_cmp cmp (key place) (Some k))
 
+-- whether a place isn't above the key
 abbrev pub is_upto : {K : Type 0} → (K → K → Ordering) → (ℕ → Option K) → K → ℕ → Bool
 is_upto cmp key k place = not (is_gt (option_cmp cmp (key place) (Some k)))
 
@@ -23,9 +24,10 @@ is_upto cmp key k place = not (is_gt (option_cmp cmp (key place) (Some k)))
 abbrev pub is_at : ℕ → Option ℕ → Bool
 is_at place found = option_map_or (λ other. other == place) found false
 
--- where the place is, or is to be inserted, and where the first place is that isn't below the key
+-- where the place is, or is to be inserted
 abbrev pub FindsPlace : {K : Type 0} → (K → K → Ordering) → (ℕ → Option K) → List ℕ → ℕ → ℕ → Type 0
 FindsPlace cmp key places place at = Rises cmp key places → IsSplit (λ other. is_before cmp key other place) places at
 
+-- where the first place is that isn't below the key
 abbrev pub FindsKey : {K : Type 0} → (K → K → Ordering) → (ℕ → Option K) → List ℕ → K → ℕ → Type 0
 FindsKey cmp key places k at = Rises cmp key places → IsSplit (is_below cmp key k) places at

@@ -48,7 +48,8 @@ impl Index {
     /// Puts the place of a row that has come, or that is kept from now on. Takes no memory.
     pub fn insert<R: Keyed>(&mut self, rows: &[R], place: u32)
         requires { 0 < self.old.spare }
-        ensures index { IsFiled R.Key.cmp R.key true place rows.now self.old.places self.new.places }
+        ensures index { IsFiled R.Key.cmp R.key true place rows.now
+            self.old.places self.new.places }
         ensures spare { self.old.spare ≤ self.new.spare + 1 }
     {
         let at = self.position(rows, place);
@@ -60,7 +61,8 @@ impl Index {
 
     /// Drops the place of a row that isn't kept from now on.
     pub fn remove<R: Keyed>(&mut self, rows: &[R], place: u32)
-        ensures index { IsFiled R.Key.cmp R.key false place rows.now self.old.places self.new.places }
+        ensures index { IsFiled R.Key.cmp R.key false place rows.now
+            self.old.places self.new.places }
         ensures spare { self.old.spare ≤ self.new.spare }
     {
         let at = self.position(rows, place);
@@ -105,7 +107,8 @@ impl Index {
     // Where the first place is whose row isn't below the key.
     fn first_at<R: Keyed, Q: Asked<R>>(&self, rows: &[R], key: &Q) -> usize
         ensures within { result ≤ length self.now.places }
-        ensures split { FindsKey R.Key.cmp (key_at R.key rows.now) self.now.places (Q.asked key.now) result }
+        ensures split { FindsKey R.Key.cmp (key_at R.key rows.now) self.now.places
+            (Q.asked key.now) result }
     {
         self.places
             .partition_point(|place| standing(rows, *place, key).is_lt())

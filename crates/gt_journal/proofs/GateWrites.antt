@@ -1,5 +1,5 @@
 -- The writes at a gate.
-use Rattle.std.proofs.Common.{ℕ, ◌+◌, List, [], ◌∷◌, ◌++◌}
+use Rattle.std.proofs.Common.{ℕ, ◌+◌, List, [], ◌∷◌}
 use Rattle.std.specs.Prelude.{Result}
 use Rattle.gt_disk.specs.Disk.{DiskWords, DiskLaws, WriteAnswer}
 use Rattle.gt_journal.specs.Gates.{Closed, InDoubt, IsGateAt, Keeps}

@@ -2,7 +2,7 @@
 use Rattle.std.proofs.Common.{◌≡◌, ◌≢◌, inl, inr, ℕ, ◌≤◌, ◌*◌, ◌+◌, ◌<◌, ◌-◌, ◌^◌, None, List, [], ◌∷◌, ◌++◌, length, take, drop, get_or, refl, sym, subst, ◌∙◌, ap, arith, length-append}
 use Rattle.std.specs.Prelude.{IsTrue, Result, Ok, Err, IfErr, IsErrAnd}
 use Rattle.std.proofs.lemmas.List.{drop_at, drop_more, take_all}
-use Rattle.gt_causes.specs.Outcomes.{NoMore, Only}
+use Rattle.gt_causes.specs.Outcomes.{NoMore}
 use Rattle.gt_disk.specs.Disk.{DiskWords, DiskLaws, Holds, LeavesOnly, LenAnswer, SyncAnswer, WriteAnswer}
 use Rattle.gt_disk.specs.Moments.{started, goes_on, weaker, joined}
 use Rattle.gt_journal.specs.JournalText.{texts, IsJournalText, IsDamagedAfter, IsTail, IsCutOff}

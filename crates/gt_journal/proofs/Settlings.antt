@@ -1,5 +1,5 @@
 -- What a settling leaves of a journal with a body in doubt, at each of its exits.
-use Rattle.std.proofs.Common.{◌≡◌, ◌≢◌, ℕ, ◌+◌, List, [], ◌∷◌, ◌++◌, Option, None, Some, length, take, drop, slice_index, refl, sym, ◌∙◌, ap, subst, arith, length-append}
+use Rattle.std.proofs.Common.{◌≡◌, ℕ, ◌+◌, List, [], ◌∷◌, ◌++◌, None, Some, length, take, drop, refl, sym, ◌∙◌, ap, arith, length-append}
 use Rattle.std.specs.Prelude.{IsTrue}
 use Rattle.gt_causes.specs.Outcomes.{NoMore}
 use Rattle.gt_disk.specs.Disk.{DiskWords, DiskLaws, LeavesOnly}

@@ -1,11 +1,11 @@
 -- What the fields of a journal give its callers.
-use Rattle.std.proofs.Common.{◌≡◌, inl, ℕ, ◌+◌, ◌*◌, ◌<◌, ◌≤◌, ◌^◌, List, [], ◌∷◌, ◌++◌, Option, None, Some, length, take, drop, refl, sym, ◌∙◌, ap, subst, arith, length-take, length-drop}
+use Rattle.std.proofs.Common.{◌≡◌, inl, ℕ, ◌+◌, List, [], ◌∷◌, ◌++◌, Option, None, Some, length, take, drop, refl, sym, ◌∙◌, ap, subst, arith, length-take, length-drop}
 use Rattle.std.specs.Prelude.{IfSome}
 use Rattle.std.proofs.lemmas.List.{take_at, take-take, drop-take}
 use Rattle.gt_causes.specs.Outcomes.{NoMore}
 use Rattle.gt_disk.specs.Disk.{DiskWords, LeavesOnly}
 use Rattle.gt_disk.specs.Moments.{weaker, joined}
-use Rattle.gt_journal.specs.JournalText.{frame, texts, Fits, IsJournalText, IsTextWithDoubt, IsFront}
+use Rattle.gt_journal.specs.JournalText.{frame, Fits, IsJournalText, IsTextWithDoubt, IsFront}
 use Rattle.gt_journal.specs.Gates.{Closed, InDoubt}
 use Rattle.gt_journal.specs.Journal.{Rests, bodies_of, doubt_of, journal_of, Image, Standing, IsPending, IsConsistent}
 use Rattle.gt_journal.proofs.Steps.{front_of}

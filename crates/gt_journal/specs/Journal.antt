@@ -3,7 +3,7 @@ use Rattle.std.specs.Prelude.{◌≡◌, ℕ, zero, suc, ◌<◌, ◌≤◌, ◌
 use Rattle.std.specs.Int.{w64, from_be_bytes}
 use Rattle.gt_causes.specs.Outcomes.{NoMore}
 use Rattle.gt_disk.specs.Disk.{DiskWords, IsSameDisk}
-use Rattle.gt_journal.specs.JournalText.{texts, Fits, IsTextWithDoubt, IsFront}
+use Rattle.gt_journal.specs.JournalText.{texts, IsTextWithDoubt, IsFront}
 use Rattle.gt_journal.specs.Gates.{Closed, InDoubt}
 
 -- The disk, the place behind the records, the bodies that count, the body that may count, and the longest body that can

@@ -1,5 +1,5 @@
 -- What an opening says of the file, and what a crash leaves meanwhile.
-use Rattle.std.specs.Prelude.{◌≡◌, ◌⊎◌, ℕ, ◌≤◌, ◌*◌, IsTrue, List, [], ◌∷◌, length, None, Result, Ok, Err, Vec}
+use Rattle.std.specs.Prelude.{◌≡◌, ◌⊎◌, ℕ, ◌≤◌, ◌*◌, List, [], ◌∷◌, length, None, Result, Ok, Err, Vec}
 use Rattle.std.specs.declared.alloc.Global.{Global}
 use Rattle.gt_causes.specs.Outcomes.{Only}
 use Rattle.gt_disk.specs.Disk.{DiskWords, Holds, LeavesOnly}

@@ -56,7 +56,8 @@ pub fn settle_at<D: Disk>(disk: &mut D, place: u64) -> Result<bool, Failed>
         → kept ≡ (slice_index (D.words.seen disk.old) place == 1)) }
     ensures ok { IfOk result (λ kept. (front body : List ℕ)
         → IsGateAt D.words disk.old place front (InDoubt front body)
-        → NoMore (Closed (if kept then front ++ text body else front)) (D.words.may_leave disk.new)) }
+        → NoMore (Closed (if kept then front ++ text body else front))
+        (D.words.may_leave disk.new)) }
     ensures any_moment { (front body : List ℕ)
         → IsGateAt D.words disk.old place front (InDoubt front body)
         → Keeps D.words disk.old disk.new (InDoubt front body) }

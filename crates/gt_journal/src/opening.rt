@@ -36,7 +36,8 @@ fn read_file<D: Disk>(alloc: Global, disk: &mut D) -> Result<(Reading, u64), Ope
 fn close_end<D: Disk>(disk: &mut D, place: u64) -> Result<(), Failed>
     requires { IsTrue (D.words.honest disk.old) → place ≤ length (D.words.seen disk.old) }
     ensures ok { OnOk result ((bodies : List (List ℕ))
-        → IsShortEnd D.words disk.old place bodies → IsEndClosed D.words disk.old place bodies disk.new) }
+        → IsShortEnd D.words disk.old place bodies
+        → IsEndClosed D.words disk.old place bodies disk.new) }
     ensures room { OnOk result (place + 1 < 2 ^ 63) }
     ensures any_moment { (bodies : List (List ℕ)) → IsShortEnd D.words disk.old place bodies
         → LeavesOnly D.words disk.old disk.new (IsJournalText bodies) }

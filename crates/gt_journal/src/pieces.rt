@@ -16,7 +16,8 @@ const PIECE: u64 = 65_536;
 /// Reads so many bytes of the file from its start on, and makes no read of no bytes.
 pub fn read_pieces<D: Disk>(alloc: Global, disk: &mut D, size: u64) -> Result<Reading, OpenFault>
     requires { IsTrue (D.words.honest disk.old) → size ≤ length (D.words.seen disk.old) }
-    ensures ok { IfOk result (λ reading. IsPartial reading × HasRead D.words disk.old size reading) }
+    ensures ok { IfOk result (λ reading.
+        IsPartial reading × HasRead D.words disk.old size reading) }
     ensures told { IsTrue (D.words.honest disk.old) → HasLooked D.words disk.old disk.new }
     ensures fault { IfErr result IsNoDamage }
     ensures same { IsSameDisk D.words disk.old disk.new }

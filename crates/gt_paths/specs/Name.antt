@@ -1,4 +1,5 @@
 -- What a name is.
+use Rattle.gt_values.specs.Ascii.{full_stop, slash, tilde}
 use Rattle.std.specs.List.{list_any}
 use Rattle.std.specs.Prelude.{Bool, Contains, List, [], length, nat_le, not, ℕ, ◌&&◌, ◌==◌, ◌||◌, ◌∷◌, ◌≢◌, ◌≤◌, ◌≡◌, true}
 use Rattle.std.specs.Str.{bytes_eq, is_utf8}
@@ -8,19 +9,20 @@ pub record IsName (name : List ℕ) : Type 0 where
   pub some : 1 ≤ length name
   pub bounded : length name ≤ 255
   pub text : is_utf8 name ≡ true
-  pub no_slash : ¬ Contains name 47
+  pub no_slash : ¬ Contains name slash
   pub no_zero : ¬ Contains name 0
-  pub dot : name ≢ 46 ∷ []
-  pub dots : name ≢ 46 ∷ 46 ∷ []
-  pub home : name ≢ 126 ∷ []
+  pub dot : name ≢ full_stop ∷ []
+  pub dots : name ≢ full_stop ∷ full_stop ∷ []
+  pub home : name ≢ tilde ∷ []
 
 -- whether the name is one of the three that stand for other folders
 abbrev pub is_reserved : List ℕ → Bool
-is_reserved name = bytes_eq name (46 ∷ []) || bytes_eq name (46 ∷ 46 ∷ []) || bytes_eq name (126 ∷ [])
+is_reserved name =
+    bytes_eq name (full_stop ∷ []) || bytes_eq name (full_stop ∷ full_stop ∷ []) || bytes_eq name (tilde ∷ [])
 
 -- whether the byte ends a name
 abbrev pub is_separator : ℕ → Bool
-is_separator byte = (byte == 47) || (byte == 0)
+is_separator byte = (byte == slash) || (byte == 0)
 
 -- the same as `IsName`, as a test
 abbrev pub is_name : List ℕ → Bool

@@ -6,6 +6,7 @@ use Rattle.std.specs.Ordering.{nat_cmp}
 use Rattle.std.specs.Prelude.{Bool, List, [], false, length, nat_le, true, ℕ, ◌&&◌, ◌++◌, ◌||◌, ◌∷◌, ◌≡◌}
 use Rattle.std.specs.Str.{bytes_eq}
 use Rattle.gt_paths.specs.Name.{is_name}
+use Rattle.gt_values.specs.Ascii.{slash}
 
 -- a path, as the list of its names
 abbrev pub PathValue : Type 0
@@ -46,20 +47,28 @@ child_path folder name = folder ++ name ∷ []
 -- a slash before each name
 abbrev pub slashed : PathValue → List ℕ
 slashed [] = []
-slashed (name ∷ names) = (47 ∷ name) ++ slashed names
+slashed (name ∷ names) = (slash ∷ name) ++ slashed names
 
 -- how the path is written: a slash before each name, and a lone one for the root
 abbrev pub printed_path : PathValue → List ℕ
-printed_path [] = 47 ∷ []
+printed_path [] = slash ∷ []
 printed_path (name ∷ names) = slashed (name ∷ names)
 
 -- how many bytes the path is printed with
 abbrev pub printed_len : PathValue → ℕ
 printed_len path = length (printed_path path)
 
--- at most 64 names and 4,096 printed bytes
+-- how many names a path has at most
+abbrev pub most_names : ℕ
+most_names = 64
+
+-- how many bytes a path is printed with at most
+abbrev pub most_bytes : ℕ
+most_bytes = 4096
+
+-- the path is within its two limits
 abbrev pub is_short_path : PathValue → Bool
-is_short_path path = nat_le (length path) 64 && nat_le (printed_len path) 4096
+is_short_path path = nat_le (length path) most_names && nat_le (printed_len path) most_bytes
 
 -- whether the list of names is a path within its limits
 abbrev pub is_path : PathValue → Bool

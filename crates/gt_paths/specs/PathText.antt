@@ -2,7 +2,8 @@
 use Rattle.gt_paths.specs.declared.fault.PathFault.{PathFault}
 use Rattle.gt_paths.specs.declared.fault.PathFault.TheVariants.{BadName, NotAbsolute, TooDeep, TooLong}
 use Rattle.gt_paths.specs.Name.{is_name}
-use Rattle.gt_paths.specs.Path.{PathValue, printed_len}
+use Rattle.gt_paths.specs.Path.{PathValue, most_bytes, most_names, printed_len}
+use Rattle.gt_values.specs.Ascii.{slash, tilde}
 use Rattle.std.specs.List.{slice_split}
 use Rattle.std.specs.Option.{option_map_or}
 use Rattle.std.specs.Prelude.{Bool, Err, List, None, Ok, Option, Result, Some, [], drop, false, if◌then◌else◌, length, min, nat_lt, option_map, ℕ, ◌++◌, ◌+◌, ◌-◌, ◌==◌, ◌^◌, ◌∷◌, ◌≡◌}
@@ -16,12 +17,12 @@ without_empty_end (piece ∷ next ∷ rest) = piece ∷ without_empty_end (next 
 
 -- the pieces between the slashes of what follows the first slash
 unfoldable pub pieces_of : List ℕ → List (List ℕ)
-pieces_of text = without_empty_end (slice_split (λ byte. byte == 47) text)
+pieces_of text = without_empty_end (slice_split (λ byte. byte == slash) text)
 
 -- whether the first piece is `~`, which stands for the home folder
 abbrev pub begins_at_home : List (List ℕ) → Bool
 begins_at_home [] = false
-begins_at_home (piece ∷ rest) = bytes_eq piece (126 ∷ [])
+begins_at_home (piece ∷ rest) = bytes_eq piece (tilde ∷ [])
 
 -- the names that the pieces stand for
 abbrev pub names_of : PathValue → List (List ℕ) → PathValue
@@ -40,8 +41,8 @@ bad_place pieces =
 -- the path of these names, or the first limit that they pass
 abbrev pub limited : PathValue → Result PathValue PathFault
 limited path =
-    if nat_lt 64 (length path) then Err (TooDeep (length path))
-    else if nat_lt 4096 (printed_len path) then Err (TooLong (printed_len path))
+    if nat_lt most_names (length path) then Err (TooDeep (length path))
+    else if nat_lt most_bytes (printed_len path) then Err (TooLong (printed_len path))
     else Ok path
 
 -- the fault of a piece that is no name: its place, of which 4 bytes can tell 2^32 - 1 at most
@@ -59,4 +60,4 @@ path_of_pieces home pieces = option_map_or (λ at. Err (bad_name at)) (bad_place
 -- the path that the text is, where `~` is the home folder, or what is wrong with the text
 unfoldable pub read_path : PathValue → List ℕ → Result PathValue PathFault
 read_path home [] = Err NotAbsolute
-read_path home (first ∷ rest) = if first == 47 then path_of_pieces home (pieces_of rest) else Err NotAbsolute
+read_path home (first ∷ rest) = if first == slash then path_of_pieces home (pieces_of rest) else Err NotAbsolute

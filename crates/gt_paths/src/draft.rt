@@ -41,7 +41,8 @@ impl Draft {
         requires name { IsTrue (is_name name.now) }
         requires depth { self.old.depth + 1 < 2 ^ 64 }
         requires bytes { self.old.bytes + length name.now + 1 < 2 ^ 64 }
-        ensures draft { OnOk result ((names : PathValue) → IsDraftOf self.old names → IsDraftOf self.new (names ++ name.now ∷ [])) }
+        ensures draft { OnOk result ((names : PathValue) → IsDraftOf self.old names
+            → IsDraftOf self.new (names ++ name.now ∷ [])) }
         ensures depth { OnOk result (self.new.depth ≡ self.old.depth + 1) }
         ensures bytes { OnOk result (self.new.bytes ≡ self.old.bytes + length name.now + 1) }
     {
@@ -60,7 +61,8 @@ impl Draft {
     pub(crate) fn extend(&mut self, alloc: Global, more: &[Name]) -> Result<(), AllocError>
         requires depth { self.old.depth + length more.now < 2 ^ 64 }
         requires bytes { self.old.bytes + length (slashed more.now) < 2 ^ 64 }
-        ensures draft { OnOk result ((names : PathValue) → IsDraftOf self.old names → IsDraftOf self.new (names ++ more.now)) }
+        ensures draft { OnOk result ((names : PathValue) → IsDraftOf self.old names
+            → IsDraftOf self.new (names ++ more.now)) }
         ensures depth { OnOk result (self.new.depth ≡ self.old.depth + length more.now) }
         ensures bytes { OnOk result (self.new.bytes ≡ self.old.bytes + length (slashed more.now)) }
     {
@@ -76,7 +78,8 @@ impl Draft {
         requires bytes { self.old.bytes + length text.now + 1 < 2 ^ 64 }
         requires place { place + length text.now < 2 ^ 64 }
         ensures names { OnOk result (first_bad (pieces_of text.now) ≡ None) }
-        ensures draft { OnOk result ((names : PathValue) → IsDraftOf self.old names → IsDraftOf self.new (names ++ pieces_of text.now)) }
+        ensures draft { OnOk result ((names : PathValue) → IsDraftOf self.old names
+            → IsDraftOf self.new (names ++ pieces_of text.now)) }
         ensures fault { IfErr result (λ fault. (fault ≡ PathFault.OutOfMemory) ⊎ ((at : ℕ) × (first_bad (pieces_of text.now) ≡ Some at) × (fault ≡ bad_name (at + place)))) }
     {
         let mut rest = text;

@@ -1,5 +1,5 @@
 ghost use Rattle.std.specs.Prelude.{◌≡◌, ◌≤◌, ◌↔◌, ◌⊎◌, ◌++◌, [], length, IfErr, IfOk, IsTrue, None, OnOk, string_bytes};
-ghost use Rattle.gt_paths.specs.Path.{PathValue, IsUnder, below, child_path, is_path, is_under, overlaps, printed_path, slashed};
+ghost use Rattle.gt_paths.specs.Path.{IsUnder, PathValue, below, child_path, is_path, is_under, most_bytes, most_names, overlaps, printed_path, slashed};
 ghost use Rattle.gt_paths.specs.PathText.{limited, read_path};
 ghost use Rattle.gt_values.specs.Results.{FaultsAs};
 
@@ -76,8 +76,10 @@ impl Path {
     /// The names that the pieces of the text stand for.
     fn draft_of(alloc: Global, text: &str, home: &Path) -> Result<Draft, PathFault>
         ensures good { OnOk result (bad_place (pieces_of text.now) ≡ None) }
-        ensures draft { IfOk result (λ draft. IsDraftOf draft (names_of home.now (pieces_of text.now))) }
-        ensures fault { IfErr result (λ fault. (fault ≡ PathFault.OutOfMemory) ⊎ IsBadPiece (pieces_of text.now) fault) }
+        ensures draft { IfOk result
+            (λ draft. IsDraftOf draft (names_of home.now (pieces_of text.now))) }
+        ensures fault { IfErr result
+            (λ fault. (fault ≡ PathFault.OutOfMemory) ⊎ IsBadPiece (pieces_of text.now) fault) }
     {
         let mut draft = Draft::new(alloc);
         match behind_home(text) {
@@ -94,8 +96,10 @@ impl Path {
     fn of(draft: Draft) -> Result<Path, PathFault>
         requires { (names : PathValue) × IsDraftOf draft names }
         ensures path { IfOk result (λ path. IsTrue (is_path path)) }
-        ensures ok { IfOk result (λ path. (names : PathValue) → IsDraftOf draft names → path ≡ names) }
-        ensures fault { IfErr result (λ fault. (names : PathValue) → IsDraftOf draft names → limited names ≡ Err fault) }
+        ensures ok { IfOk result
+            (λ path. (names : PathValue) → IsDraftOf draft names → path ≡ names) }
+        ensures fault { IfErr result
+            (λ fault. (names : PathValue) → IsDraftOf draft names → limited names ≡ Err fault) }
     {
         if draft.depth > MAX_NAMES {
             return Err(PathFault::TooDeep { names: draft.depth });
@@ -111,7 +115,8 @@ impl Path {
         ensures text { IfOk result (λ text. string_bytes text ≡ printed_path self.now) }
 
         // What is printed is read as this path, whatever the home folder.
-        ensures back { IfOk result (λ text. (home : PathValue) → read_path home (string_bytes text) ≡ Ok self.now) }
+        ensures back { IfOk result
+            (λ text. (home : PathValue) → read_path home (string_bytes text) ≡ Ok self.now) }
     {
         if self.names.is_empty() {
             return String::from_str(alloc, "/");
@@ -155,7 +160,8 @@ impl Path {
     pub fn child(&self, alloc: Global, name: &Name) -> Result<Path, PathFault>
         ensures path { IfOk result (λ path. IsTrue (is_path path)) }
         ensures ok { IfOk result (λ path. path ≡ child_path self.now name.now) }
-        ensures fault { FaultsAs PathFault.OutOfMemory (limited (child_path self.now name.now)) result }
+        ensures fault { FaultsAs PathFault.OutOfMemory
+            (limited (child_path self.now name.now)) result }
     {
         let mut draft = Draft::new(alloc);
         draft.extend(alloc, &self.names)?;
@@ -168,7 +174,8 @@ impl Path {
         requires { IsTrue (is_under self.now from.now) }
         ensures path { IfOk result (λ path. IsTrue (is_path path)) }
         ensures ok { IfOk result (λ path. path ≡ to.now ++ below self.now from.now) }
-        ensures fault { FaultsAs PathFault.OutOfMemory (limited (to.now ++ below self.now from.now)) result }
+        ensures fault { FaultsAs PathFault.OutOfMemory
+            (limited (to.now ++ below self.now from.now)) result }
     {
         let mut draft = Draft::new(alloc);
         draft.extend(alloc, &to.names)?;
@@ -180,8 +187,8 @@ impl Path {
     fn names_below(&self, folder: &Path) -> &[Name]
         requires { IsTrue (is_under self.now folder.now) }
         ensures names { result.now ≡ below self.now folder.now }
-        ensures few { length result.now ≤ 64 }
-        ensures small { length (slashed result.now) ≤ 4096 }
+        ensures few { length result.now ≤ most_names }
+        ensures small { length (slashed result.now) ≤ most_bytes }
     {
         let names = self.names.as_slice();
         let above = folder.names.as_slice();

@@ -3,8 +3,10 @@ use Rattle.std.proofs.Common.{◌≡◌, ℕ, ◌^◌, Bool, true, false, ◌&&�
 use Rattle.std.proofs.lemmas.Bool.{and_from, and_parts, eqb-true}
 use Rattle.std.proofs.lemmas.List.{append-nil, nil_from_length}
 use Rattle.gt_records.specs.Fields.{id_text, moment_text}
-use Rattle.gt_records.specs.Reading.{boolean_at, id_at, mapped, moment_at, number_at, ◌⊗◌}
-use Rattle.gt_records.specs.ReadingEvents.{access_spec_at, event_at, event_of, happening_at, happening_forms, tagged_at, transfer_spec_at}
+use Rattle.gt_records.specs.Reading.{mapped, number_at, ◌⊗◌}
+use Rattle.gt_records.specs.ReadingFields.{boolean_at, id_at, moment_at}
+use Rattle.gt_records.specs.ReadingEvents.{event_at, event_of, happening_at, happening_forms, tagged_at}
+use Rattle.gt_records.specs.ReadingSpecs.{access_spec_at, transfer_spec_at}
 use Rattle.gt_records.specs.RecordText.{fields_text, record_text, tag_of, transfer_spec_text}
 use Rattle.gt_records.proofs.FieldLaws.{boolean_reads, id_reads, moment_reads, u32_reads, u64_reads}
 use Rattle.gt_records.proofs.FormLaws.{FormTakes, FormsTake, forms_take, made_form}

@@ -11,7 +11,8 @@ use Rattle.std.proofs.Math.Nat.{mod-lt}
 use Rattle.gt_paths.specs.Name.{is_name, is_reserved, is_separator}
 use Rattle.gt_paths.specs.Path.{is_path, is_short_path, printed_len}
 use Rattle.gt_records.specs.Fields.{boolean_code, boolean_text, byte_text, id_text, list_text, moment_text, name_text, number_text, option_text, path_text, principal_text, string_text}
-use Rattle.gt_records.specs.Reading.{boolean_at, boolean_of, bytes_at, id_at, list_at, moment_at, name_at, number_at, of_form, option_at, path_at, principal_at, principal_forms, string_at, utf8_at, value_at}
+use Rattle.gt_records.specs.Reading.{bytes_at, number_at, of_form}
+use Rattle.gt_records.specs.ReadingFields.{boolean_at, boolean_of, id_at, list_at, moment_at, name_at, option_at, path_at, principal_at, principal_forms, string_at, utf8_at, value_at}
 use Rattle.gt_records.proofs.FormLaws.{FormsTake, forms_take, lone_form, made_form}
 use Rattle.gt_records.proofs.Laws.{Follows, Follows-checked, IsBytes, Reads, Reads-as, Reads-checked, Reads-coded, Reads-led, Reads-mapped, Takes, all_bytes, bind_some, byte_reads, chosen, mapped_takes, bytes_follow, itself, some_is, times_follow}
 use Rattle.gt_records.proofs.LimitLaws.{is_list, is_string}

@@ -6,8 +6,9 @@ use Rattle.std.proofs.lemmas.Bool.{and_from, and_parts, leb-true, ltb-true}
 use Rattle.gt_paths.specs.Path.{is_path, overlaps}
 use Rattle.gt_records.specs.declared.spec.Flags.{Flags}
 use Rattle.gt_records.specs.Fields.{boolean_code, boolean_text, byte_text, list_text, moment_text, number_text, option_text, path_text, principal_text, string_text}
-use Rattle.gt_records.specs.Reading.{byte_at, coded_at, list_at, mapped, moment_at, number_at, option_at, string_at, ◌⊗◌}
-use Rattle.gt_records.specs.ReadingEvents.{SpecFields, access_spec_at, entry_at, filter_rule_at, flags_of, kept_at, kind_of, recursive_of, spec_of, transfer_spec_at}
+use Rattle.gt_records.specs.Reading.{byte_at, coded_at, mapped, number_at, ◌⊗◌}
+use Rattle.gt_records.specs.ReadingFields.{list_at, moment_at, option_at, string_at}
+use Rattle.gt_records.specs.ReadingSpecs.{SpecFields, access_spec_at, entry_at, filter_rule_at, flags_of, kept_at, kind_of, recursive_of, spec_of, transfer_spec_at}
 use Rattle.gt_records.specs.RecordText.{access_spec_text, entry_text, filter_rule_text, flags_code, kept_text, kind_code, recursive_code, transfer_spec_text}
 use Rattle.gt_records.proofs.FieldLaws.{boolean_reads, list_reads, moment_reads, option_reads, path_reads, principal_reads, string_reads, u32_reads}
 use Rattle.gt_records.proofs.Laws.{Reads, Reads-as, Reads-both, Reads-checked, Reads-coded, Reads-mapped, byte_reads, guard_some, some_is}

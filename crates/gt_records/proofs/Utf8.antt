@@ -4,7 +4,8 @@ use Rattle.std.specs.Str.{IsUtf8, is_utf8}
 use Rattle.std.proofs.lemmas.Bool.{cases_Bool}
 use Rattle.std.proofs.lemmas.Str.{IsUtf8-from_is_utf8, is_utf8-from_IsUtf8}
 use Rattle.std.proofs.Common.{inl, inr, refl}
-use Rattle.gt_records.specs.Reading.{bytes_at, utf8_at}
+use Rattle.gt_records.specs.Reading.{bytes_at}
+use Rattle.gt_records.specs.ReadingFields.{utf8_at}
 
 pub utf8_read : (count : ℕ) (bytes text rest : List ℕ) → bytes_at count bytes ≡ Some (text, rest) → IsUtf8 text → utf8_at count bytes ≡ Some (text, rest)
 unfolding utf8_at

@@ -19,6 +19,7 @@ abbrev pub boolean_code : Bool → ℕ
 boolean_code false = 0
 boolean_code true = 1
 
+-- a boolean in one byte
 abbrev pub boolean_text : Bool → List ℕ
 boolean_text b = byte_text (boolean_code b)
 

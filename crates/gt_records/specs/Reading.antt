@@ -1,21 +1,16 @@
--- Reading fields from the front of a list of bytes: what each reader of the code gives.
-use Rattle.std.specs.Int.{Width, byte_len, from_be_bytes, w16, w32, w64}
-use Rattle.std.specs.Prelude.{Bool, Err, List, None, Ok, Option, Result, Some, [], drop, false, if◌then◌else◌, length, nat_lt, suc, take, true, zero, ℕ, ◌==◌, ◌≡◌, ◌∷◌}
-use Rattle.std.specs.Str.{is_utf8}
-use Rattle.gt_paths.specs.Name.{is_name}
-use Rattle.gt_paths.specs.Path.{PathValue, is_short_path}
+-- Reading from the front of a list of bytes: how readers are put together, and how a call keeps to one.
 use Rattle.gt_records.specs.declared.fault.DecodeFault.{DecodeFault}
-use Rattle.gt_records.specs.declared.fault.DecodeFault.TheVariants as faults
-use Rattle.gt_types.specs.declared.rule.Principal.{Principal}
-use Rattle.gt_types.specs.declared.rule.Principal.TheVariants.{AllAuthenticated, Anonymous, Group, Identity}
-use Rattle.gt_values.specs.Forms.{is_moment}
 use Rattle.gt_values.specs.Grammar.{Read, ◌>>=◌}
+use Rattle.std.specs.Int.{Width, byte_len, from_be_bytes}
+use Rattle.std.specs.Prelude.{Bool, Err, List, None, Ok, Option, Result, Some, [], drop, if◌then◌else◌, length, nat_lt, suc, take, zero, ℕ, ◌==◌, ◌∷◌, ◌≡◌}
+use Rattle.gt_records.specs.declared.fault.DecodeFault.TheVariants as faults
 
--- what a reader returned and left is what reading gives, unless memory ran out
+-- reading gives nothing, unless memory ran out
 abbrev pub Fails : {X : Type 0} → DecodeFault → Read X → Type 0
 Fails faults.OutOfMemory read = Unit {0}
 Fails faults.NotRecord read = read ≡ None
 
+-- what a reader returned and left is what reading gives, unless memory ran out
 abbrev pub Gives : {X : Type 0} → Result X DecodeFault → Read X → List ℕ → Type 0
 Gives (Ok x) read left = read ≡ Some (x, left)
 Gives (Err e) read left = Fails e read
@@ -50,9 +45,11 @@ checked test reader bytes = do
 unfoldable pub bytes_at : ℕ → List ℕ → Read (List ℕ)
 bytes_at count bytes = if nat_lt (length bytes) count then None else Some (take count bytes, drop count bytes)
 
+-- a number of this width, its greatest byte first
 unfoldable pub number_at : Width → List ℕ → Read ℕ
 number_at width = mapped (from_be_bytes width) (bytes_at (byte_len width))
 
+-- one byte
 unfoldable pub byte_at : List ℕ → Read ℕ
 byte_at [] = None
 byte_at (b ∷ rest) = Some (b, rest)
@@ -64,24 +61,6 @@ coded_at value_of bytes = do
   x ← value_of b.0
   Some (x, b.1)
 
-abbrev pub boolean_of : ℕ → Option Bool
-boolean_of zero = Some false
-boolean_of (suc zero) = Some true
-boolean_of (suc (suc n)) = None
-
-unfoldable pub boolean_at : List ℕ → Read Bool
-boolean_at = coded_at boolean_of
-
--- so many bytes of UTF-8
-unfoldable pub utf8_at : ℕ → List ℕ → Read (List ℕ)
-utf8_at count = checked is_utf8 (bytes_at count)
-
-unfoldable pub string_at : List ℕ → Read (List ℕ)
-string_at = led (number_at w32) utf8_at
-
-unfoldable pub name_at : List ℕ → Read (List ℕ)
-name_at = led byte_at (λ len. checked is_name (utf8_at len))
-
 -- so many values
 unfoldable pub times_at : {X : Type 0} → (List ℕ → Read X) → ℕ → List ℕ → Read (List X)
 times_at reader zero bytes = Some ([], bytes)
@@ -90,27 +69,7 @@ times_at reader (suc count) bytes = do
   others ← times_at reader count first.1
   Some (first.0 ∷ others.0, others.1)
 
-unfoldable pub path_at : List ℕ → Read PathValue
-path_at = led (number_at w16) (λ count. checked is_short_path (times_at name_at count))
-
--- a value, if it is there
-abbrev pub value_at : {X : Type 0} → (List ℕ → Read X) → Bool → List ℕ → Read (Option X)
-value_at reader false bytes = Some (None, bytes)
-value_at reader true bytes = mapped Some reader bytes
-
-unfoldable pub option_at : {X : Type 0} → (List ℕ → Read X) → List ℕ → Read (Option X)
-option_at reader = led boolean_at (value_at reader)
-
-unfoldable pub list_at : {X : Type 0} → (List ℕ → Read X) → List ℕ → Read (List X)
-list_at reader = led (number_at w32) (times_at reader)
-
-unfoldable pub id_at : List ℕ → Read (List ℕ)
-id_at = bytes_at 16
-
-unfoldable pub moment_at : List ℕ → Read ℕ
-moment_at = checked is_moment (number_at w64)
-
--- One of several forms of a value: the number that stands before it, and how what follows is read.
+-- one of several forms of a value: the number that stands before it, and how what follows is read
 pub record Form (X : Type 0) : Type 0 where
   pub number : ℕ
   pub reader : List ℕ → Read X
@@ -123,14 +82,3 @@ of_form (form ∷ forms) number bytes = if number == form.number then form.reade
 -- a value that nothing follows
 abbrev pub alone : {X : Type 0} → X → List ℕ → Read X
 alone x bytes = Some (x, bytes)
-
--- the forms of a principal
-abbrev pub principal_forms : List (Form Principal)
-principal_forms =
-    (record { number = 1; reader = mapped Identity id_at })
-    ∷ (record { number = 2; reader = mapped Group id_at })
-    ∷ (record { number = 3; reader = alone AllAuthenticated })
-    ∷ (record { number = 4; reader = alone Anonymous }) ∷ []
-
-unfoldable pub principal_at : List ℕ → Read Principal
-principal_at = led byte_at (of_form principal_forms)

@@ -34,12 +34,15 @@ flags_code verify preserve extra skip_source =
 abbrev pub kept_text : Kept → List ℕ
 kept_text kept = byte_text kept.given ++ byte_text kept.set
 
+-- a filter rule: whether it includes, its kind, and its pattern
 abbrev pub filter_rule_text : FilterRule → List ℕ
 filter_rule_text rule = boolean_text rule.include ++ byte_text (kind_code rule.kind) ++ string_text rule.pattern
 
+-- an entry: its two paths, and whether it is recursive
 abbrev pub entry_text : TransferEntry → List ℕ
 entry_text entry = path_text entry.source ++ path_text entry.destination ++ byte_text (recursive_code entry.recursive)
 
+-- a specification of a transfer: its fields, in order
 abbrev pub transfer_spec_text : TransferSpec → List ℕ
 transfer_spec_text spec =
     number_text w32 spec.source ++ number_text w32 spec.destination
@@ -47,6 +50,7 @@ transfer_spec_text spec =
     ++ byte_text (flags_code spec.verify spec.preserve spec.extra spec.skip_source) ++ kept_text spec.kept
     ++ list_text filter_rule_text spec.rules ++ list_text entry_text spec.entries
 
+-- what an access rule says: its principal, its path, and whether it permits writing
 abbrev pub access_spec_text : AccessSpec → List ℕ
 access_spec_text spec = principal_text spec.principal ++ path_text spec.path ++ boolean_text spec.write
 

@@ -16,13 +16,16 @@ use std::alloc::Global;
 /// few bytes, or bytes behind the event.
 pub fn decode(alloc: Global, bytes: &[u8]) -> Result<Event, DecodeFault>
     ensures text { IfOk result (λ event. record_text event ≡ bytes.now) }
-    ensures recordable { IfOk result (λ event. IsTrue (is_recordable recordable_collections event)) }
+    ensures recordable { IfOk result
+        (λ event. IsTrue (is_recordable recordable_collections event)) }
 
     // Bytes are refused exactly where they are no event's text.
-    ensures refused { IsErrOf result DecodeFault.NotRecord → (event : Event) → IsTrue (is_recordable recordable_collections event) → record_text event ≡ bytes.now → ⊥ }
+    ensures refused { IsErrOf result DecodeFault.NotRecord → (event : Event)
+        → IsTrue (is_recordable recordable_collections event) → record_text event ≡ bytes.now → ⊥ }
 
     // What has this text is decoded, unless memory runs out.
-    ensures given { (event : Event) → IsTrue (is_recordable recordable_collections event) → record_text event ≡ bytes.now
+    ensures given { (event : Event) → IsTrue (is_recordable recordable_collections event)
+        → record_text event ≡ bytes.now
         → MatchResult result (λ found. found ≡ event) (λ fault. fault ≡ DecodeFault.OutOfMemory) }
 {
     decoded(alloc, bytes)

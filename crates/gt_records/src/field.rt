@@ -2,7 +2,8 @@
 
 ghost use Rattle.gt_records.specs.Appending.{Keeps};
 ghost use Rattle.gt_records.specs.Fields.{boolean_text, byte_text, list_text, number_text, option_text};
-ghost use Rattle.gt_records.specs.Reading.{Gives, boolean_at, byte_at, list_at, number_at, option_at, times_at};
+ghost use Rattle.gt_records.specs.Reading.{Gives, byte_at, number_at, times_at};
+ghost use Rattle.gt_records.specs.ReadingFields.{boolean_at, list_at, option_at};
 ghost use Rattle.gt_values.specs.Forms.{if_there};
 ghost use Rattle.gt_values.specs.Grammar.{Read};
 ghost use Rattle.std.specs.Int.{w32, w64};
@@ -86,7 +87,7 @@ impl Field for bool {
         u8::from(*self).write_to(into)
     }
 
-    #[tactic(auto, unfolding(crate::specs::Reading::boolean_at, crate::specs::Reading::coded_at))]
+    #[tactic(auto, unfolding(crate::specs::ReadingFields::boolean_at, crate::specs::Reading::coded_at))]
     fn read_from(_alloc: Global, from: &mut Reader<'_>) -> Result<bool, DecodeFault> {
         match from.byte()? {
             0 => Ok(false),
@@ -111,7 +112,7 @@ impl<T: Field> Field for Option<T> {
         }
     }
 
-    #[tactic(auto, unfolding(crate::specs::Reading::option_at))]
+    #[tactic(auto, unfolding(crate::specs::ReadingFields::option_at))]
     fn read_from(alloc: Global, from: &mut Reader<'_>) -> Result<Option<T>, DecodeFault> {
         if bool::read_from(alloc, from)? {
             Ok(Some(T::read_from(alloc, from)?))
@@ -133,7 +134,7 @@ impl<T: Field> Field for Sequence<T> {
         write_all(self.as_slice(), into)
     }
 
-    #[tactic(auto, unfolding(crate::specs::Reading::list_at))]
+    #[tactic(auto, unfolding(crate::specs::ReadingFields::list_at))]
     fn read_from(alloc: Global, from: &mut Reader<'_>) -> Result<Sequence<T>, DecodeFault> {
         let count = from.u32()?;
         read_times(alloc, count, from)

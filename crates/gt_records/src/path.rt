@@ -1,7 +1,7 @@
 #![tactic(auto, using(crate::proofs::KeepLemmas::keeping))]
 
 ghost use Rattle.gt_records.specs.Fields.{name_text, path_text};
-ghost use Rattle.gt_records.specs.Reading.{name_at, path_at};
+ghost use Rattle.gt_records.specs.ReadingFields.{name_at, path_at};
 
 use crate::fault::DecodeFault;
 use crate::field::{Field, read_times, write_all};
@@ -20,7 +20,7 @@ impl Field for Name {
         into.extend_from_slice(name.as_bytes())
     }
 
-    #[tactic(auto, unfolding(crate::specs::Reading::name_at))]
+    #[tactic(auto, unfolding(crate::specs::ReadingFields::name_at))]
     fn read_from(alloc: Global, from: &mut Reader<'_>) -> Result<Name, DecodeFault> {
         let len = from.byte()?;
         let text = from.text(usize::from(len))?;
@@ -42,7 +42,7 @@ impl Field for Path {
         write_all(self.as_slice(), into)
     }
 
-    #[tactic(auto, unfolding(crate::specs::Reading::path_at))]
+    #[tactic(auto, unfolding(crate::specs::ReadingFields::path_at))]
     fn read_from(alloc: Global, from: &mut Reader<'_>) -> Result<Path, DecodeFault> {
         let count = from.u16()?;
         let names = read_times::<Name>(alloc, u32::from(count), from)?;

@@ -1,4 +1,5 @@
-ghost use Rattle.gt_records.specs.Reading.{Gives, byte_at, bytes_at, number_at, utf8_at};
+ghost use Rattle.gt_records.specs.Reading.{Gives, byte_at, bytes_at, number_at};
+ghost use Rattle.gt_records.specs.ReadingFields.{utf8_at};
 ghost use Rattle.std.specs.Int.{w16, w32, w64};
 ghost use Rattle.std.specs.Prelude.{◌≡◌, ◌==◌, MatchResult, Some, length};
 

@@ -2,7 +2,7 @@
 
 ghost use Rattle.gt_records.specs.Fields.{byte_text};
 ghost use Rattle.gt_records.specs.Reading.{Gives, coded_at};
-ghost use Rattle.gt_records.specs.ReadingEvents.{access_spec_at, entry_at, filter_rule_at, flags_of, kept_at, kind_of, recursive_of, transfer_spec_at};
+ghost use Rattle.gt_records.specs.ReadingSpecs.{access_spec_at, entry_at, filter_rule_at, flags_of, kept_at, kind_of, recursive_of, transfer_spec_at};
 ghost use Rattle.gt_records.specs.RecordText;
 ghost use Rattle.gt_records.specs.RecordText.{access_spec_text, entry_text, filter_rule_text, flags_code, kept_text, transfer_spec_text};
 ghost use Rattle.gt_types.specs.Forms.{is_pattern};
@@ -64,7 +64,7 @@ impl Field for Kept {
         self.set.write_to(into)
     }
 
-    #[tactic(auto, unfolding(crate::specs::ReadingEvents::kept_at))]
+    #[tactic(auto, unfolding(crate::specs::ReadingSpecs::kept_at))]
     fn read_from(_alloc: Global, from: &mut Reader<'_>) -> Result<Kept, DecodeFault> {
         let given = from.byte()?;
         let set = from.byte()?;
@@ -133,7 +133,7 @@ impl Field for FilterRule {
         self.pattern.write_to(into)
     }
 
-    #[tactic(auto, unfolding(crate::specs::ReadingEvents::filter_rule_at))]
+    #[tactic(auto, unfolding(crate::specs::ReadingSpecs::filter_rule_at))]
     fn read_from(alloc: Global, from: &mut Reader<'_>) -> Result<FilterRule, DecodeFault> {
         let include = bool::read_from(alloc, from)?;
         let kind = read_kind(from)?;
@@ -157,7 +157,7 @@ impl Field for TransferEntry {
         recursive_code(self.recursive).write_to(into)
     }
 
-    #[tactic(auto, unfolding(crate::specs::ReadingEvents::entry_at))]
+    #[tactic(auto, unfolding(crate::specs::ReadingSpecs::entry_at))]
     fn read_from(alloc: Global, from: &mut Reader<'_>) -> Result<TransferEntry, DecodeFault> {
         let source = Path::read_from(alloc, from)?;
         let destination = Path::read_from(alloc, from)?;
@@ -195,7 +195,7 @@ impl Field for TransferSpec {
         self.entries.write_to(into)
     }
 
-    #[tactic(auto, unfolding(crate::specs::ReadingEvents::transfer_spec_at))]
+    #[tactic(auto, unfolding(crate::specs::ReadingSpecs::transfer_spec_at))]
     fn read_from(alloc: Global, from: &mut Reader<'_>) -> Result<TransferSpec, DecodeFault> {
         let source = from.u32()?;
         let destination = from.u32()?;
@@ -239,7 +239,7 @@ impl Field for AccessSpec {
         self.write.write_to(into)
     }
 
-    #[tactic(auto, unfolding(crate::specs::ReadingEvents::access_spec_at))]
+    #[tactic(auto, unfolding(crate::specs::ReadingSpecs::access_spec_at))]
     fn read_from(alloc: Global, from: &mut Reader<'_>) -> Result<AccessSpec, DecodeFault> {
         let principal = Principal::read_from(alloc, from)?;
         let path = Path::read_from(alloc, from)?;

@@ -6,11 +6,12 @@ ghost use Rattle.std.specs.Prelude.{◌≡◌, IsTrue, Some};
 
 /// No text stands for two events.
 pub fn record_text_unique()
-    ensures { (a b : Event) → IsTrue (is_recordable recordable_collections a) → IsTrue (is_recordable recordable_collections b)
-        → record_text a ≡ record_text b → a ≡ b }
+    ensures { (a b : Event) → IsTrue (is_recordable recordable_collections a)
+        → IsTrue (is_recordable recordable_collections b) → record_text a ≡ record_text b → a ≡ b }
 {}
 
 /// The text of an event reads back as that event.
 pub fn record_text_reads_back()
-    ensures { (event : Event) → IsTrue (is_recordable recordable_collections event) → event_of (record_text event) ≡ Some event }
+    ensures { (event : Event) → IsTrue (is_recordable recordable_collections event)
+        → event_of (record_text event) ≡ Some event }
 {}

@@ -1,7 +1,7 @@
 #![tactic(auto, using(crate::proofs::KeepLemmas::keeping))]
 
 ghost use Rattle.gt_records.specs.Fields.{id_text, moment_text, principal_text, string_text};
-ghost use Rattle.gt_records.specs.Reading.{id_at, moment_at, principal_at, string_at};
+ghost use Rattle.gt_records.specs.ReadingFields.{id_at, moment_at, principal_at, string_at};
 ghost use Rattle.std.specs.Prelude.{◌^◌, length, nat_lt};
 
 use crate::fault::DecodeFault;
@@ -23,7 +23,7 @@ impl Field for Text {
         into.extend_from_slice(self.as_str().as_bytes())
     }
 
-    #[tactic(auto, unfolding(crate::specs::Reading::string_at))]
+    #[tactic(auto, unfolding(crate::specs::ReadingFields::string_at))]
     fn read_from(alloc: Global, from: &mut Reader<'_>) -> Result<Text, DecodeFault> {
         let len = from.u32()?;
         let text = from.text(len as usize)?;
@@ -40,7 +40,7 @@ impl Field for Id {
         into.extend_from_slice(self.as_bytes())
     }
 
-    #[tactic(auto, unfolding(crate::specs::Reading::id_at))]
+    #[tactic(auto, unfolding(crate::specs::ReadingFields::id_at))]
     fn read_from(_alloc: Global, from: &mut Reader<'_>) -> Result<Id, DecodeFault> {
         Ok(Id::from_bytes(from.array()?))
     }
@@ -55,7 +55,7 @@ impl Field for Moment {
         self.seconds().write_to(into)
     }
 
-    #[tactic(auto, unfolding(crate::specs::Reading::moment_at))]
+    #[tactic(auto, unfolding(crate::specs::ReadingFields::moment_at))]
     fn read_from(_alloc: Global, from: &mut Reader<'_>) -> Result<Moment, DecodeFault> {
         Moment::of(from.u64()?).ok_or(DecodeFault::NotRecord)
     }
@@ -81,7 +81,7 @@ impl Field for Principal {
         }
     }
 
-    #[tactic(auto, unfolding(crate::specs::Reading::principal_at))]
+    #[tactic(auto, unfolding(crate::specs::ReadingFields::principal_at))]
     fn read_from(alloc: Global, from: &mut Reader<'_>) -> Result<Principal, DecodeFault> {
         match from.byte()? {
             1 => Ok(Principal::Identity(Id::read_from(alloc, from)?)),

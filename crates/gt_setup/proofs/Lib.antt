@@ -1,3 +1,4 @@
+pub mod ApartLemmas
 pub mod CheckLemmas
 pub mod IndexLemmas
 pub mod KeyLemmas

@@ -1,6 +1,6 @@
 -- The setup that the bytes of a setup file stand for, or the first fault of the file.
 use Rattle.std.specs.List.{list_any}
-use Rattle.std.specs.Option.{ok_or}
+use Rattle.std.specs.Option.{ok_or, option_and_then}
 use Rattle.std.specs.Prelude.{Err, List, None, Ok, Option, Result, Some, [], codes, find, if◌then◌else◌, length, map, nat_lt, not, ℕ, ◌+◌, ◌++◌, ◌∷◌}
 use Rattle.std.specs.Str.{bytes_eq, is_utf8}
 use Rattle.gt_setup.specs.Setup.{Setup, has_identity}
@@ -13,10 +13,14 @@ use Rattle.gt_values.specs.Results.{◌>>=◌}
 use Rattle.toml.specs.Data.{Data, Items, Members, get, get_member, item, no_items}
 use Rattle.toml.specs.Parse.{parse_document}
 
--- what the value at the key stands for: there has to be one, and it has to stand for something
+-- what the key's value stands for, or the key's fault: there has to be a value, and it has to stand for something
+abbrev pub judged : {A : Type 0} → List ℕ → ℕ → Option Data → Option A → Result A SetupFault
+judged key row None meant = Err (Missing key row)
+judged key row (Some d) meant = ok_or meant (BadValue key row)
+
+-- what the value at the key stands for by this meaning
 abbrev pub required : {A : Type 0} → List ℕ → ℕ → (Data → Option A) → Option Data → Result A SetupFault
-required key row meaning None = Err (Missing key row)
-required key row meaning (Some d) = ok_or (meaning d) (BadValue key row)
+required key row meaning value = judged key row value (option_and_then meaning value)
 
 -- the identity of this row, where these tokens stand in earlier rows
 unfoldable pub identity_at : ℕ → List (List ℕ) → Data → Result Identity SetupFault

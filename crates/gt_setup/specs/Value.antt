@@ -2,7 +2,7 @@
 use Rattle.std.specs.Char.{is_ascii_uppercase}
 use Rattle.std.specs.List.{list_any}
 use Rattle.std.specs.Option.{option_and_then}
-use Rattle.std.specs.Prelude.{Bool, List, None, Option, Some, [], false, if◌then◌else◌, length, nat_le, nat_lt, option_map, pos, true, ℕ, ◌&&◌, ◌++◌, ◌^◌, ◌∷◌}
+use Rattle.std.specs.Prelude.{Bool, List, None, Option, Some, [], false, if◌then◌else◌, length, nat_le, nat_lt, option_map, pos, suc, true, ℕ, ◌&&◌, ◌++◌, ◌^◌, ◌∷◌}
 use Rattle.std.specs.Result.{result_ok}
 use Rattle.std.specs.Str.{bytes_eq}
 use Rattle.gt_paths.specs.Path.{PathValue}
@@ -75,7 +75,16 @@ abbrev pub are_tables : Items → Bool
 are_tables no_items = true
 are_tables (item d ds) = is_table d && are_tables ds
 
--- an array of tables, of which there is at least one
+-- how many items there are
+abbrev pub count : Items → ℕ
+count no_items = 0
+count (item d ds) = suc (count ds)
+
+-- 1 to 1,048,576 tables: a file has no more bytes than that
+abbrev pub rows_among : Items → Option Items
+rows_among ds = if (nat_le 1 (count ds) && nat_le (count ds) 1048576) && are_tables ds then Some ds else None
+
+-- an array of that many tables
 abbrev pub rows_in : Data → Option Items
-rows_in (array (item d ds)) = if are_tables (item d ds) then Some (item d ds) else None
+rows_in (array ds) = rows_among ds
 rows_in _ = None

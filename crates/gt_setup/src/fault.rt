@@ -11,22 +11,22 @@ use uuid::Uuid;
 #[derive(Debug, PartialEq, Eq, Drop, Error)]
 pub enum SetupFault {
     /// The file is no TOML, or no UTF-8.
-    #[error("the setup is not TOML in UTF-8")]
+    #[error("setup file: not TOML in UTF-8")]
     NotToml,
     /// The key is not there.
-    #[error("`{}` is missing in row {row}", .key.as_str())]
+    #[error("setup file, key `{}`, row {row}: missing", .key.as_str())]
     Missing { key: Text, row: u32 },
     /// The value of the key is of another type than the key's, or out of its range.
-    #[error("`{}` in row {row} has a value that is not allowed", .key.as_str())]
+    #[error("setup file, key `{}`, row {row}: the value is not allowed", .key.as_str())]
     BadValue { key: Text, row: u32 },
     /// Two identities, or two collections, have this identifier.
-    #[error("the identifier {} stands twice", Uuid::from_bytes(*.id.as_bytes()))]
+    #[error("setup file: the identifier {} stands twice", Uuid::from_bytes(*.id.as_bytes()))]
     Twice { id: Id },
     /// A collection has this owner, and no identity has this identifier.
-    #[error("the owner {} is no identity of the setup", Uuid::from_bytes(*.id.as_bytes()))]
+    #[error("setup file: the owner {} is no identity", Uuid::from_bytes(*.id.as_bytes()))]
     UnknownIdentity { id: Id },
     /// There are this many bytes, and a setup has at most 1,048,576.
-    #[error("the setup has {bytes} bytes, and may have 1048576")]
+    #[error("setup file: {bytes} bytes, and at most 1048576 are allowed")]
     TooLong { bytes: u64 },
     /// There was no memory to read the setup.
     #[error("out of memory")]

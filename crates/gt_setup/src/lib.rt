@@ -6,6 +6,7 @@
 
 mod fault;
 mod keys;
+mod laws;
 mod owners;
 mod parts;
 mod places;
@@ -16,5 +17,6 @@ mod tests;
 mod value;
 
 pub use fault::SetupFault;
+pub use laws::stands_once;
 pub use parts::{Collection, Identity};
 pub use setup::Setup;

@@ -5,12 +5,13 @@ ghost use Rattle.gt_setup.specs.Indexed.{IsIndexOf, Takes};
 ghost use Rattle.gt_setup.specs.Setup.{lists};
 ghost use Rattle.gt_values.specs.Results.{FaultsAs};
 ghost use Rattle.std.specs.BTreeMap.{keys};
-ghost use Rattle.std.specs.Prelude.{◌≡◌, ◌⊎◌, ◌++◌, ◌<◌, ◌^◌, [], IfErr, IfOk, length};
+ghost use Rattle.std.specs.Prelude.{◌≡◌, ◌⊎◌, ◌++◌, ◌<◌, ◌≤◌, ◌^◌, [], IfErr, IfOk, length};
 ghost use Rattle.toml.specs.View.{items_view, table_view, view};
 
 use crate::fault::SetupFault;
-use crate::keys::{groups_at, home_at, id_at, name_at, rows_of, tokens_at};
+use crate::keys::{required, rows_of};
 use crate::parts::{Collection, Identity};
+use crate::value::{groups_in, home_in, id_in, name_in, tokens_in};
 use gt_types::Who;
 use gt_values::Digest;
 use std::alloc::Global;
@@ -38,7 +39,7 @@ fn identities_from(
     alloc: Global,
     rows: &[Value],
 ) -> Result<(Vec<Identity>, BTreeMap<Digest, usize>), SetupFault>
-    requires { length rows.now < 2 ^ 32 }
+    requires { length rows.now ≤ 1048576 }
     ensures ok { IfOk result (λ r. spec.identities_from 0 [] (items_view rows.now) ≡ Ok r.0.items) }
     ensures index { IfOk result (λ r. IsIndexOf lists r.0.items r.1) }
     ensures fault { FaultsAs SetupFault.OutOfMemory (spec.identities_from 0 [] (items_view rows.now)) result }
@@ -64,10 +65,27 @@ fn identity_at(
     ensures taken { IfOk result (λ identity. Takes number identity.tokens taken.old taken.new) }
     ensures fault { FaultsAs SetupFault.OutOfMemory (spec.identity_at number (keys taken.old) (view row.now)) result }
 {
-    let identity = id_at(alloc, row, number, "id", "identity.id")?;
-    let name = name_at(alloc, row, number, "identity.name")?;
-    let tokens = tokens_at(alloc, row, number, taken)?;
-    let groups = groups_at(alloc, row, number)?;
+    let value = row.get("id");
+    let identity = required(alloc, "identity.id", number, value, id_in(value))?;
+    let value = row.get("name");
+    let name = required(
+        alloc,
+        "identity.name",
+        number,
+        value,
+        name_in(alloc, value)?,
+    )?;
+    let value = row.get("tokens");
+    let meant = tokens_in(alloc, value, number as usize, taken)?;
+    let tokens = required(alloc, "identity.tokens", number, value, meant)?;
+    let value = row.get("groups");
+    let groups = required(
+        alloc,
+        "identity.groups",
+        number,
+        value,
+        groups_in(alloc, value)?,
+    )?;
     Ok(Identity {
         who: Who { identity, groups },
         name,
@@ -90,7 +108,7 @@ pub(crate) fn collections_of(alloc: Global, table: &Table) -> Result<Vec<Collect
 
 // The collections of these rows.
 fn collections_from(alloc: Global, rows: &[Value]) -> Result<Vec<Collection>, SetupFault>
-    requires { length rows.now < 2 ^ 32 }
+    requires { length rows.now ≤ 1048576 }
     ensures ok { IfOk result (λ v. spec.collections_from 0 (items_view rows.now) ≡ Ok v.items) }
     ensures few { IfOk result (λ v. length v.items < 2 ^ 32) }
     ensures fault { FaultsAs SetupFault.OutOfMemory (spec.collections_from 0 (items_view rows.now)) result }
@@ -109,10 +127,26 @@ fn collection_at(alloc: Global, row: &Value, number: u32) -> Result<Collection, 
     ensures ok { IfOk result (λ collection. spec.collection_at number (view row.now) ≡ Ok collection) }
     ensures fault { FaultsAs SetupFault.OutOfMemory (spec.collection_at number (view row.now)) result }
 {
-    let id = id_at(alloc, row, number, "id", "collection.id")?;
-    let name = name_at(alloc, row, number, "collection.name")?;
-    let owner = id_at(alloc, row, number, "owner", "collection.owner")?;
-    let home = home_at(alloc, row, number)?;
+    let value = row.get("id");
+    let id = required(alloc, "collection.id", number, value, id_in(value))?;
+    let value = row.get("name");
+    let name = required(
+        alloc,
+        "collection.name",
+        number,
+        value,
+        name_in(alloc, value)?,
+    )?;
+    let value = row.get("owner");
+    let owner = required(alloc, "collection.owner", number, value, id_in(value))?;
+    let value = row.get("home");
+    let home = required(
+        alloc,
+        "collection.home",
+        number,
+        value,
+        home_in(alloc, value)?,
+    )?;
     Ok(Collection {
         id,
         name,

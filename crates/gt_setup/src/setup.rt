@@ -7,11 +7,12 @@ ghost use Rattle.std.specs.Prelude.{◌≡◌, ◌<◌, ◌≤◌, ◌^◌, ◌�
 ghost use Rattle.toml.specs.View.{table_view};
 
 use crate::fault::SetupFault;
-use crate::keys::namespace_of;
+use crate::keys::{member, required};
 use crate::owners::check_owners;
 use crate::parts::{Collection, Identity, Parts};
 use crate::places::{collection_places, identity_places};
 use crate::rows::{collections_of, identities_of};
+use crate::value::namespace_in;
 use gt_paths::Path;
 use gt_types::Who;
 use gt_values::{Digest, Id};
@@ -189,7 +190,8 @@ fn parts_of(alloc: Global, table: &Table) -> Result<Parts, SetupFault>
     ensures digests { IfOk result (λ parts. IsIndexOf lists parts.identities.items parts.by_digest) }
     ensures fault { FaultsAs SetupFault.OutOfMemory (parts_of (table_view table.now)) result }
 {
-    let namespace = namespace_of(alloc, table)?;
+    let value = member(table, "namespace");
+    let namespace = required(alloc, "namespace", 0, value, namespace_in(value))?;
     let (identities, by_digest) = identities_of(alloc, table)?;
     let collections = collections_of(alloc, table)?;
     Ok(Parts {

@@ -135,87 +135,107 @@ fn the_first_fault_is_told(rt: HostRuntime) -> Result<(), Fail> {
     let alloc = rt.alloc();
     // Two lines that stand in other places, and what is told.
     let cases = [
-        ((0, ""), (0, ""), "`namespace` is missing in row 0"),
-        ((2, ""), (2, ""), "`identity.id` is missing in row 0"),
-        ((10, ""), (10, ""), "`identity.groups` is missing in row 1"),
-        ((25, ""), (25, ""), "`collection.home` is missing in row 2"),
+        (
+            (0, ""),
+            (0, ""),
+            "setup file, key `namespace`, row 0: missing",
+        ),
+        (
+            (2, ""),
+            (2, ""),
+            "setup file, key `identity.id`, row 0: missing",
+        ),
+        (
+            (10, ""),
+            (10, ""),
+            "setup file, key `identity.groups`, row 1: missing",
+        ),
+        (
+            (25, ""),
+            (25, ""),
+            "setup file, key `collection.home`, row 2: missing",
+        ),
         // A value that is not allowed, and behind it a missing key.
         (
             (0, "namespace = -1"),
             (2, ""),
-            "`namespace` in row 0 has a value that is not allowed",
+            "setup file, key `namespace`, row 0: the value is not allowed",
         ),
         (
             (0, "namespace = 4294967296"),
             (2, ""),
-            "`namespace` in row 0 has a value that is not allowed",
+            "setup file, key `namespace`, row 0: the value is not allowed",
         ),
         (
             (0, "namespace = 7.0"),
             (2, ""),
-            "`namespace` in row 0 has a value that is not allowed",
+            "setup file, key `namespace`, row 0: the value is not allowed",
         ),
         (
             (3, "name = \"\""),
             (4, ""),
-            "`identity.name` in row 0 has a value that is not allowed",
+            "setup file, key `identity.name`, row 0: the value is not allowed",
         ),
         (
             (4, TOKEN_IN_CAPITALS),
             (5, ""),
-            "`identity.tokens` in row 0 has a value that is not allowed",
+            "setup file, key `identity.tokens`, row 0: the value is not allowed",
         ),
         (
             (9, TOKEN_OF_ANN),
             (10, ""),
-            "`identity.tokens` in row 1 has a value that is not allowed",
+            "setup file, key `identity.tokens`, row 1: the value is not allowed",
         ),
         (
             (9, TOKEN_TWICE),
             (10, ""),
-            "`identity.tokens` in row 1 has a value that is not allowed",
+            "setup file, key `identity.tokens`, row 1: the value is not allowed",
         ),
         (
             (5, "groups = [\"ann\"]"),
             (7, ""),
-            "`identity.groups` in row 0 has a value that is not allowed",
+            "setup file, key `identity.groups`, row 0: the value is not allowed",
         ),
         (
             (18, "name = 1"),
             (24, ""),
-            "`collection.name` in row 1 has a value that is not allowed",
+            "setup file, key `collection.name`, row 1: the value is not allowed",
         ),
         (
             (24, "owner = \"bob\""),
             (25, ""),
-            "`collection.owner` in row 2 has a value that is not allowed",
+            "setup file, key `collection.owner`, row 2: the value is not allowed",
         ),
         (
             (15, "home = \"//\""),
             (17, ""),
-            "`collection.home` in row 0 has a value that is not allowed",
+            "setup file, key `collection.home`, row 0: the value is not allowed",
         ),
         // Row by row, not key by key; values before what is wrong between rows; identifiers before owners.
-        ((5, ""), (7, ""), "`identity.groups` is missing in row 0"),
+        (
+            (5, ""),
+            (7, ""),
+            "setup file, key `identity.groups`, row 0: missing",
+        ),
         (
             (7, ANN_AGAIN),
             (25, ""),
-            "`collection.home` is missing in row 2",
+            "setup file, key `collection.home`, row 2: missing",
         ),
         (
             (7, ANN_AGAIN),
             (14, NO_OWNER),
-            "the identifier 00000000-0000-4000-8000-0000000000a1 stands twice",
+            "setup file: the identifier 00000000-0000-4000-8000-0000000000a1 stands twice",
         ),
         (
             (17, LAB_AGAIN),
             (14, NO_OWNER),
-            "the identifier 00000000-0000-4000-8000-0000000000c0 stands twice",
+            "setup file: the identifier 00000000-0000-4000-8000-0000000000c0 stands twice",
         ),
         (
             (14, NO_OWNER),
             (14, NO_OWNER),
-            "the owner 00000000-0000-4000-8000-0000000000c0 is no identity of the setup",
+            "setup file: the owner 00000000-0000-4000-8000-0000000000c0 is no identity",
         ),
         // An identity and a collection may have one identifier.
         ((12, ANN_AGAIN), (12, ANN_AGAIN), "read"),
@@ -231,22 +251,25 @@ fn the_first_fault_is_told(rt: HostRuntime) -> Result<(), Fail> {
 fn short_texts_are_judged(rt: HostRuntime) -> Result<(), Fail> {
     let alloc = rt.alloc();
     let cases: [(&[u8], &str); 7] = [
-        (b"", "`namespace` is missing in row 0"),
-        (b"namespace = 7", "`identity` is missing in row 0"),
+        (b"", "setup file, key `namespace`, row 0: missing"),
+        (
+            b"namespace = 7",
+            "setup file, key `identity`, row 0: missing",
+        ),
         (
             b"namespace = 7\nidentity = 7",
-            "`identity` in row 0 has a value that is not allowed",
+            "setup file, key `identity`, row 0: the value is not allowed",
         ),
         (
             b"namespace = 7\nidentity = []",
-            "`identity` in row 0 has a value that is not allowed",
+            "setup file, key `identity`, row 0: the value is not allowed",
         ),
         (
             b"namespace = 7\nidentity = [7]",
-            "`identity` in row 0 has a value that is not allowed",
+            "setup file, key `identity`, row 0: the value is not allowed",
         ),
-        (b"namespace = ", "the setup is not TOML in UTF-8"),
-        (b"namespace = 7 # \xff", "the setup is not TOML in UTF-8"),
+        (b"namespace = ", "setup file: not TOML in UTF-8"),
+        (b"namespace = 7 # \xff", "setup file: not TOML in UTF-8"),
     ];
     for (text, line) in cases {
         assert_eq!(rt; told(alloc, text)?.as_str(), line);
@@ -265,7 +288,7 @@ fn names_and_sizes_at_their_limits(rt: HostRuntime) -> Result<(), Fail> {
         ("\"", "read"),
         (
             "n\"",
-            "`identity.name` in row 0 has a value that is not allowed",
+            "setup file, key `identity.name`, row 0: the value is not allowed",
         ),
     ] {
         let longest = format!(in alloc; "{name}{end}")?;
@@ -277,7 +300,7 @@ fn names_and_sizes_at_their_limits(rt: HostRuntime) -> Result<(), Fail> {
         (1_048_576, "read"),
         (
             1_048_577,
-            "the setup has 1048577 bytes, and may have 1048576",
+            "setup file: 1048577 bytes, and at most 1048576 are allowed",
         ),
     ] {
         let mut bytes = vec![in alloc; b'\n'; size]?;

@@ -5,7 +5,9 @@ ghost use Rattle.gt_setup.specs.Indexed.{Takes, place_at};
 ghost use Rattle.std.specs.BTreeMap.{keys};
 ghost use Rattle.std.specs.Char.{is_ascii_uppercase};
 ghost use Rattle.std.specs.List.{list_any};
-ghost use Rattle.std.specs.Prelude.{◌≡◌, ◌++◌, IfOk, IfSome, option_map};
+ghost use Rattle.std.specs.Option.{option_and_then, option_copied};
+ghost use Rattle.std.specs.Prelude.{◌≡◌, ◌++◌, ◌≤◌, IfOk, IfSome, length, option_map};
+ghost use Rattle.toml.specs.Data.{as_array, as_str};
 ghost use Rattle.toml.specs.View.{items_view, view};
 
 use gt_paths::{Path, PathFault};
@@ -16,34 +18,29 @@ use std::collections::BTreeMap;
 use toml::Value;
 
 /// A whole number of 32 bits.
-pub(crate) fn namespace_in(value: &Value) -> Option<u32>
-    ensures { result ≡ spec.namespace_in (view value.now) }
+pub(crate) fn namespace_in(value: Option<&Value>) -> Option<u32>
+    ensures { result ≡ option_and_then spec.namespace_in (option_map (λ v. view v.now) value.entry) }
 {
-    match value.as_integer() {
-        Some(number) => if 0 <= number && number <= 4_294_967_295 {
-            Some(number as u32)
-        } else {
-            None
-        },
-        None => None,
+    let number = value?.as_integer()?;
+    if 0 <= number && number <= 4_294_967_295 {
+        Some(number as u32)
+    } else {
+        None
     }
 }
 
 /// The text of a UUID.
-pub(crate) fn id_in(value: &Value) -> Option<Id>
-    ensures { result ≡ spec.id_in (view value.now) }
+pub(crate) fn id_in(value: Option<&Value>) -> Option<Id>
+    ensures { result ≡ option_and_then spec.id_in (option_map (λ v. view v.now) value.entry) }
 {
-    match value.as_str() {
-        Some(text) => Id::read(text),
-        None => None,
-    }
+    Id::read(value?.as_str()?)
 }
 
 /// A text of 1 to 255 bytes.
-pub(crate) fn name_in(alloc: Global, value: &Value) -> Result<Option<Text>, AllocError>
-    ensures { IfOk result (λ name. name ≡ spec.name_in (view value.now)) }
+pub(crate) fn name_in(alloc: Global, value: Option<&Value>) -> Result<Option<Text>, AllocError>
+    ensures { IfOk result (λ name. name ≡ option_and_then spec.name_in (option_map (λ v. view v.now) value.entry)) }
 {
-    let Some(text) = value.as_str() else {
+    let Some(text) = text_in(value) else {
         return Ok(None);
     };
     if text.is_empty() || text.len() > 255 {
@@ -53,10 +50,10 @@ pub(crate) fn name_in(alloc: Global, value: &Value) -> Result<Option<Text>, Allo
 }
 
 /// The text of a path, read with the root as home.
-pub(crate) fn home_in(alloc: Global, value: &Value) -> Result<Option<Path>, AllocError>
-    ensures { IfOk result (λ home. home ≡ spec.home_in (view value.now)) }
+pub(crate) fn home_in(alloc: Global, value: Option<&Value>) -> Result<Option<Path>, AllocError>
+    ensures { IfOk result (λ home. home ≡ option_and_then spec.home_in (option_map (λ v. view v.now) value.entry)) }
 {
-    let Some(text) = value.as_str() else {
+    let Some(text) = text_in(value) else {
         return Ok(None);
     };
     match Path::read(alloc, text, &Path::root(alloc)) {
@@ -66,11 +63,28 @@ pub(crate) fn home_in(alloc: Global, value: &Value) -> Result<Option<Path>, Allo
     }
 }
 
-/// An array of texts of UUIDs.
-pub(crate) fn groups_in(alloc: Global, value: &Value) -> Result<Option<Sequence<Id>>, AllocError>
-    ensures { IfOk result (λ groups. groups ≡ spec.groups_in (view value.now)) }
+// The text that a value is.
+fn text_in(value: Option<&Value>) -> Option<&str>
+    ensures { option_copied result ≡ option_and_then as_str (option_map (λ v. view v.now) value.entry) }
 {
-    match value.as_array() {
+    value?.as_str()
+}
+
+// The array that a value is.
+fn array_in(value: Option<&Value>) -> Option<&[Value]>
+    ensures { option_map (λ items. items_view items.now) result ≡ option_and_then as_array (option_map (λ v. view v.now) value.entry) }
+{
+    Some(value?.as_array()?.as_slice())
+}
+
+/// An array of texts of UUIDs.
+pub(crate) fn groups_in(
+    alloc: Global,
+    value: Option<&Value>,
+) -> Result<Option<Sequence<Id>>, AllocError>
+    ensures { IfOk result (λ groups. groups ≡ option_and_then spec.groups_in (option_map (λ v. view v.now) value.entry)) }
+{
+    match array_in(value) {
         Some(items) => ids_in(alloc, items),
         None => Ok(None),
     }
@@ -82,7 +96,7 @@ fn ids_in(alloc: Global, items: &[Value]) -> Result<Option<Sequence<Id>>, AllocE
 {
     let mut ids = Vec::new(alloc);
     for at in 0..items.len() {
-        let Some(id) = id_in(&items[at]) else {
+        let Some(id) = id_in(Some(&items[at])) else {
             return Ok(None);
         };
         ids.push(id)?;
@@ -93,14 +107,14 @@ fn ids_in(alloc: Global, items: &[Value]) -> Result<Option<Sequence<Id>>, AllocE
 /// An array of digests, none of which has been taken; they are taken then, for the identity of this row.
 pub(crate) fn tokens_in(
     alloc: Global,
-    value: &Value,
+    value: Option<&Value>,
     row: usize,
     taken: &mut BTreeMap<Digest, usize>,
 ) -> Result<Option<Sequence<Digest>>, AllocError>
-    ensures value { IfOk result (λ tokens. tokens ≡ spec.tokens_in (keys taken.old) (view value.now)) }
+    ensures value { IfOk result (λ tokens. tokens ≡ option_and_then (spec.tokens_in (keys taken.old)) (option_map (λ v. view v.now) value.entry)) }
     ensures taken { IfOk result (λ tokens. IfSome tokens (λ digests. Takes row digests taken.old taken.new)) }
 {
-    match value.as_array() {
+    match array_in(value) {
         Some(items) => digests_in(alloc, items, row, taken),
         None => Ok(None),
     }
@@ -172,21 +186,17 @@ fn has_capitals(text: &[u8]) -> bool
     text.iter().any(|byte| byte.is_ascii_uppercase())
 }
 
-/// The rows of an array of tables, of which there is at least one.
-#[tactic(auto, using(crate::proofs::TableLemmas::tables_are_rows, crate::proofs::TableLemmas::others_are_no_rows, crate::proofs::TableLemmas::nothing_is_no_rows))]
-pub(crate) fn rows_in(value: &Value) -> Option<&[Value]>
-    ensures { option_map (λ rows. items_view rows.now) result ≡ spec.rows_in (view value.now) }
+/// The rows of an array of 1 to 1,048,576 tables. A file has no more bytes than that.
+#[tactic(auto, using(crate::proofs::TableLemmas::count_view))]
+pub(crate) fn rows_in(value: Option<&Value>) -> Option<&[Value]>
+    ensures value { option_map (λ rows. items_view rows.now) result ≡ option_and_then spec.rows_in (option_map (λ v. view v.now) value.entry) }
+    ensures few { IfSome result (λ rows. length rows.now ≤ 1048576) }
 {
-    let Some(items) = value.as_array() else {
-        return None;
-    };
-    if items.is_empty() {
+    let items = array_in(value)?;
+    if items.is_empty() || items.len() > 1_048_576 || !are_tables(items) {
         return None;
     }
-    if !are_tables(items) {
-        return None;
-    }
-    Some(items.as_slice())
+    Some(items)
 }
 
 // Whether each value is a table.

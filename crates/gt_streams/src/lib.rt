@@ -15,6 +15,8 @@ mod suite;
 mod suite_fault;
 #[cfg(test)]
 mod tests;
+#[cfg(test)]
+mod wrong;
 
 pub use exact::read_exactly;
 pub use line::{LineEnd, StreamFault, read_line};

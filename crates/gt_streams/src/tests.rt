@@ -1,5 +1,6 @@
 ghost use Rattle.std.specs.Prelude.{◌≤◌};
 
+use crate::wrong::{Wrong, WrongSink, WrongSource};
 use crate::{
     LineEnd, MemSink, MemSource, Partial, Sink, Source, StreamFault, SuiteFault, read_exactly,
     read_line, sink_suite, source_suite, write_all,
@@ -113,5 +114,63 @@ fn a_failing_write_takes_nothing(rt: HostRuntime) -> Result<(), Fail> {
     assert!(rt; sink.bytes() == b"abcdefgh".as_slice());
     assert_eq!(rt; sink.faults(), 1);
     assert_eq!(rt; sink.starved(), 0);
+    Ok(())
+}
+
+// The suite over a source of five bytes, given one by one, that is wrong in one call.
+fn found(alloc: Global, wrong: Wrong, at: u64) -> Result<Result<(), SuiteFault>, AllocError> {
+    let inner = source(alloc, b"bytes", 1, &[])?;
+    let mut source = WrongSource {
+        inner,
+        wrong,
+        at,
+        calls: 0,
+    };
+    Ok(source_suite(alloc, &mut source, b"bytes"))
+}
+
+#[test]
+fn wrong_sources_are_found(rt: HostRuntime) -> Result<(), Fail> {
+    let alloc = rt.alloc();
+    for at in 1..6 {
+        assert_eq!(rt; found(alloc, Wrong::Byte, at)?, Err(SuiteFault::WrongBytes));
+        assert_eq!(rt;
+            found(alloc, Wrong::LeftOut, at)?,
+            Err(SuiteFault::WrongEnd)
+        );
+        assert_eq!(rt;
+            found(alloc, Wrong::Nothing, at)?,
+            Err(SuiteFault::WrongEnd)
+        );
+    }
+    for at in 6..8 {
+        assert_eq!(rt; found(alloc, Wrong::More, at)?, Err(SuiteFault::WrongEnd));
+    }
+    assert_eq!(rt; found(alloc, Wrong::Byte, 8)?, Ok(()));
+    Ok(())
+}
+
+// Whether a sink that is wrong in one call holds these bytes behind its suite.
+fn holds(alloc: Global, wrong: Wrong, at: u64) -> Result<bool, Fail> {
+    let mut sink = WrongSink {
+        inner: MemSink::new(alloc, 2, Vec::new(alloc)),
+        wrong,
+        at,
+        calls: 0,
+    };
+    sink_suite(&mut sink, b"bytes")?;
+    Ok(sink.inner.bytes() == b"bytes".as_slice())
+}
+
+#[test]
+fn wrong_sinks_hold_other_bytes(rt: HostRuntime) -> Result<(), Fail> {
+    let alloc = rt.alloc();
+    for at in 1..4 {
+        assert!(rt; !holds(alloc, Wrong::Byte, at)?);
+        assert!(rt; !holds(alloc, Wrong::LeftOut, at)?);
+        assert!(rt; !holds(alloc, Wrong::Nothing, at)?);
+        assert!(rt; !holds(alloc, Wrong::More, at)?);
+    }
+    assert!(rt; holds(alloc, Wrong::Byte, 9)?);
     Ok(())
 }

@@ -1,5 +1,5 @@
 -- A text is in UTF-8, so a limit of texts is a limit of its length.
-use Rattle.std.proofs.Common.{Bool, List, refl, sym, true, ℕ, ◌&&◌, ◌≡◌}
+use Rattle.std.proofs.Common.{Bool, List, refl, true, ℕ, ◌&&◌, ◌≡◌}
 use Rattle.std.proofs.lemmas.Str.{is_utf8-from_IsUtf8}
 use Rattle.std.specs.Str.{IsUtf8, is_utf8}
 

@@ -1,5 +1,5 @@
 -- A text is read as the number that is printed as it.
-use Rattle.std.proofs.Common.{Bool, List, None, Option, Some, ap, arith, false, nat_le, refl, sym, true, ℕ, if◌then◌else◌, ◌&&◌, ◌<◌, ◌^◌, ◌∙◌, ◌≡◌, ◌≤◌}
+use Rattle.std.proofs.Common.{Bool, List, None, Some, ap, arith, false, nat_le, refl, sym, true, ℕ, if◌then◌else◌, ◌&&◌, ◌<◌, ◌^◌, ◌∙◌, ◌≡◌, ◌≤◌}
 use Rattle.std.proofs.lemmas.Bool.Decides.{nat_tests}
 use Rattle.std.proofs.lemmas.Fmt.{decimal_is_IsNumeral}
 use Rattle.std.proofs.lemmas.Slice.Eq.{bytes_eq-Decides}

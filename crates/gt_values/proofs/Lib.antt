@@ -5,4 +5,3 @@ pub mod IdLemmas
 pub mod MadeLemmas
 pub mod PrintLemmas
 pub mod ProfileLemmas
-pub mod RowLemmas

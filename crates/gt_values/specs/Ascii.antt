@@ -5,9 +5,21 @@ use Rattle.std.specs.Prelude.{ℕ}
 abbrev pub line_feed : ℕ
 line_feed = 10
 
+-- what stands before the end of a line in HTTP
+abbrev pub carriage_return : ℕ
+carriage_return = 13
+
 -- what stands between words
 abbrev pub space : ℕ
 space = 32
+
+-- `!`
+abbrev pub exclamation_mark : ℕ
+exclamation_mark = 33
+
+-- `*`
+abbrev pub asterisk : ℕ
+asterisk = 42
 
 -- `+`
 abbrev pub plus : ℕ
@@ -53,6 +65,14 @@ upper_t = 84
 abbrev pub upper_z : ℕ
 upper_z = 90
 
+-- `[`
+abbrev pub opening_bracket : ℕ
+opening_bracket = 91
+
+-- `]`
+abbrev pub closing_bracket : ℕ
+closing_bracket = 93
+
 -- `a`
 abbrev pub lower_a : ℕ
 lower_a = 97
@@ -72,3 +92,7 @@ opening_brace = 123
 -- `}`
 abbrev pub closing_brace : ℕ
 closing_brace = 125
+
+-- `~`
+abbrev pub tilde : ℕ
+tilde = 126

@@ -1,4 +1,7 @@
-use crate::{Bytes, Clock, Digest, FixedClock, Id, Moment, MomentFault, Sequence, Table, Text};
+use crate::{
+    Bytes, Clock, Digest, FixedClock, Id, Moment, MomentFault, Sequence, Table, Text, is_alive,
+    read_decimal,
+};
 use std::test::Fail;
 
 const TASK_ONE: &str = "00000007-0002-8000-8000-000000000001";
@@ -153,5 +156,42 @@ fn calls_that_take_memory(rt: HostRuntime) -> Result<(), Fail> {
     assert!(rt; rows.row(1) == Some(&Digest::from_bytes([1; 32])));
     assert!(rt; rows.row(2) == Some(&Digest::from_bytes([4; 32])));
     assert!(rt; rows.row(0).is_none() && rows.row(4).is_none());
+    Ok(())
+}
+
+#[test]
+fn plain_numbers(rt: HostRuntime) -> Result<(), Fail> {
+    for (text, most, number) in [
+        ("0", 0, Some(0)),
+        ("1000", 1000, Some(1000)),
+        ("1001", 1000, None),
+        ("18446744073709551615", u64::MAX, Some(u64::MAX)),
+        ("18446744073709551616", u64::MAX, None),
+        ("", 9, None),
+        ("00", 9, None),
+        ("07", 9, None),
+        ("+7", 9, None),
+        ("-7", 9, None),
+        (" 7", 9, None),
+        ("7 ", 9, None),
+        ("0x7", 9, None),
+        ("٧", 9, None),
+    ] {
+        assert!(rt; read_decimal(text, most) == number, "{text}");
+    }
+    Ok(())
+}
+
+#[test]
+fn rules_count_between_their_events(rt: HostRuntime) -> Result<(), Fail> {
+    for (event, ended, alive) in [
+        (3, None, false),
+        (4, None, true),
+        (5, Some(6), true),
+        (6, Some(6), false),
+        (4, Some(4), false),
+    ] {
+        assert_eq!(rt; is_alive(event, 3, ended), alive);
+    }
     Ok(())
 }

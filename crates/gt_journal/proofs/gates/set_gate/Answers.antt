@@ -1,4 +1,4 @@
-use Rattle.std.proofs.Common.{ℕ, List, ◌∙◌, sym, subst}
+use Rattle.std.proofs.Common.{◌∙◌, sym, subst}
 use Rattle.gt_journal.specs.Gates.{Doubtful, InDoubt}
 use Rattle.gt_journal.proofs.GateWrites.{written_at_gate}
 use Rattle.gt_journal.proofs.Runs.{and_sync}

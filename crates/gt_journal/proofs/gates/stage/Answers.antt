@@ -1,4 +1,4 @@
-use Rattle.std.proofs.Common.{ℕ, ◌+◌, List, ◌∙◌, sym, subst}
+use Rattle.std.proofs.Common.{◌+◌, ◌∙◌, sym, subst}
 use Rattle.gt_disk.specs.Disk.{Holds}
 use Rattle.gt_journal.specs.Gates.{Closed, Doubtful}
 use Rattle.gt_journal.proofs.GateWrites.{written_behind_gate}

@@ -1,3 +1,4 @@
+-- Hard here: where the rest ends. What was read is whole records and a rest, and the rest is cut off, short or behind a closed gate.
 use Rattle.std.proofs.Common.{arith, ◌≡◌, ◌-◌, length, sym, subst, ◌∙◌, ap}
 use Rattle.std.specs.Prelude.{IsTrue}
 use Rattle.gt_journal.specs.Reading.{lists, rest_of, IsRest}

@@ -1,4 +1,4 @@
-use Rattle.std.proofs.Common.{rules, arith, ◌≡◌, ◌+◌, ◌≤◌, List, ℕ, length, take, drop, sym, ◌∙◌, ap, subst}
+use Rattle.std.proofs.Common.{rules, arith, ◌≡◌, ◌+◌, ◌≤◌, length, ◌∙◌}
 use Rattle.std.proofs.lemmas.List.{places}
 use Rattle.gt_journal.proofs.PieceLemmas.{piece_of, same_on, read_more, looked_more}
 use Rattle.gt_journal.proofs.pieces.read_pieces.Goals as goal

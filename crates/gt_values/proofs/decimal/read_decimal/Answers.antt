@@ -1,4 +1,5 @@
-use Rattle.std.proofs.Common.{Err, List, Ok, Result, ap, arith, false, refl, sym, true, ℕ, ◌^◌, ◌∙◌, ◌<◌, ◌≡◌, ◌≤◌}
+-- What is hard: a text that isn't read is no number's text. It would be parsed as that number, and printed as it.
+use Rattle.std.proofs.Common.{ap, arith, false, refl, sym, true, ℕ, ◌^◌, ◌∙◌, ◌<◌, ◌≡◌, ◌≤◌}
 use Rattle.std.proofs.lemmas.Fmt.{parse-decimal}
 use Rattle.std.proofs.lemmas.Slice.Eq.{bytes_eq-Decides}
 use Rattle.std.specs.Fmt.{decimal}

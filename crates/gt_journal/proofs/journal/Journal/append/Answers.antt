@@ -1,3 +1,4 @@
+-- Hard here: each fault leaves another standing. The first two calls leave the files closed, the last two leave the body in doubt.
 use Rattle.std.proofs.Common.{rules, ◌≡◌, inl, inr, ◌+◌, ◌≤◌, None, Some, length, take, ◌∙◌, ap, subst}
 use Rattle.std.proofs.lemmas.List.{places}
 use Rattle.std.specs.Vec.{with_items}

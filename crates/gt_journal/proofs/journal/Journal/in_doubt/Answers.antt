@@ -1,8 +1,6 @@
 use Rattle.std.proofs.Common.{subst}
 use Rattle.gt_journal.specs.Journal.{Rests}
 use Rattle.gt_journal.proofs.Standings.{rests}
-use Rattle.gt_journal.proofs.Appends.{added}
-use Rattle.gt_journal.proofs.Settlings.{kept}
 use Rattle.gt_journal.proofs.journal.Journal.in_doubt.Goals as goal
 
 pub returns-clause-images : goal.returns-clause-images

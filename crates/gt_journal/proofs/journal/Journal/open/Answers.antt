@@ -1,6 +1,5 @@
 use Rattle.std.proofs.Common.{arith, None, ◌∙◌}
 use Rattle.gt_journal.specs.Reading.{lists}
-use Rattle.gt_journal.specs.Journal.{IsConsistent}
 use Rattle.gt_journal.proofs.Openings.{found_bodies, found_consistent}
 use Rattle.gt_journal.proofs.Standings.{rests}
 use Rattle.gt_journal.proofs.journal.Journal.open.Goals as goal

@@ -1,12 +1,13 @@
-use Rattle.std.proofs.Common.{◌≡◌, ◌≢◌, ℕ, ◌+◌, List, [], ◌∷◌, ◌++◌, true, false, None, Some, take, drop, slice_index, if◌then◌else◌, refl, sym, ◌∙◌, ap, subst}
-use Rattle.std.specs.Prelude.{IsSome, IsTrue}
+-- Hard here: a body that was in doubt is in the buffer still, and the gate that was read says which files may be left.
+use Rattle.std.proofs.Common.{◌≡◌, ◌≢◌, ℕ, ◌+◌, List, ◌++◌, true, false, None, Some, take, drop, slice_index, if◌then◌else◌, refl, sym, ◌∙◌, ap, subst}
+use Rattle.std.specs.Prelude.{IsTrue}
 use Rattle.std.proofs.lemmas.Bool.{eqb-true, eqb-false}
 use Rattle.gt_causes.specs.Outcomes.{NoMore}
 use Rattle.gt_disk.specs.Disk.{LeavesOnly}
 use Rattle.gt_journal.specs.JournalText.{text, IsTextWithDoubt}
 use Rattle.gt_journal.specs.Gates.{Closed, InDoubt, IsGateAt}
 use Rattle.gt_journal.specs.Journal.{journal_of, IsConsistent, Rests}
-use Rattle.gt_journal.specs.Calls.{gate_of, IsUnsettled, Settles}
+use Rattle.gt_journal.specs.Calls.{IsUnsettled, Settles}
 use Rattle.gt_journal.specs.declared.settled.Settled.TheVariants.{Kept, Dropped}
 use Rattle.gt_journal.proofs.Settlings as settle
 use Rattle.gt_journal.proofs.Standings.{rests}

@@ -1,4 +1,4 @@
-use Rattle.std.proofs.Common.{◌≡◌, ◌-◌, [], ◌++◌, List, ℕ, length, take, drop, append-nil, append_assoc, take-append-drop, refl, sym, ◌∙◌, ap}
+use Rattle.std.proofs.Common.{◌≡◌, [], ◌++◌, List, ℕ, take, drop, append-nil, append_assoc, take-append-drop, refl, sym, ◌∙◌, ap}
 use Rattle.std.proofs.lemmas.Bool.{eqb-true}
 use Rattle.std.proofs.lemmas.List.{take_rest}
 use Rattle.gt_journal.specs.Reading.{lists, rest_of}

@@ -1,4 +1,4 @@
-use Rattle.std.proofs.Common.{rules, ◌≡◌, [], ◌++◌, List, ℕ, take, append-nil, refl, sym, ◌∙◌, ap}
+use Rattle.std.proofs.Common.{rules, ◌≡◌, [], ◌++◌, take, append-nil, refl}
 use Rattle.gt_journal.specs.Reading.{lists, rest_of, Reads}
 use Rattle.gt_journal.proofs.Parse.{bytes_more, header_more, body_more, reads_as}
 use Rattle.gt_journal.proofs.reading.Reading.read_some.Goals as goal

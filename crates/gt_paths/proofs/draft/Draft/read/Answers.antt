@@ -1,3 +1,4 @@
+-- What is hard: the loop's invariant, by which the pieces met so far and those of the rest are all the pieces.
 use Rattle.gt_paths.proofs.NameLemmas.{IsName-from_test}
 use Rattle.gt_paths.specs.Draft.{IsDraftOf}
 use Rattle.std.proofs.Common.{rules, ◌<◌, ◌≡◌, ◌≤◌, List, ℕ, subst, length-append, ◌∙◌, sym, ap, inr, arith, [], ◌∷◌, ◌++◌, length, true, append_assoc}

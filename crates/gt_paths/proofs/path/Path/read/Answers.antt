@@ -1,3 +1,4 @@
+-- What is hard: the text begins with a slash, and what follows it is read as pieces, good or bad.
 use Rattle.std.proofs.Common.{◌≡◌, ◌⊎◌, ◌∙◌, inl, inr, lit<, Err, Some, None, ◌∷◌, List, ℕ}
 use Rattle.std.proofs.lemmas.Result.{IfErr-weaker, IfOk-weaker, err_from_is_err_and}
 use Rattle.std.proofs.lemmas.Str.Pattern.{strip_prefix_char}

@@ -1,0 +1,4 @@
+pub mod BodyLemmas
+pub mod CountLemmas
+pub mod LawLemmas
+pub mod PlaceLemmas

@@ -1,0 +1,4 @@
+pub mod Changes
+pub mod Found
+pub mod Status
+pub mod Tasks

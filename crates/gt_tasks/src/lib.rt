@@ -1,0 +1,10 @@
+//! Tasks: their rows in order of making, found by the identity that made a task and its submission identifier.
+#![tactic(auto)]
+
+mod row;
+mod tasks;
+#[cfg(test)]
+mod tests;
+
+pub use row::TaskRow;
+pub use tasks::Tasks;
