@@ -6,7 +6,7 @@ use Rattle.gt_disk.specs.Moments.{started}
 use Rattle.gt_disk.specs.Disk.{DiskLaws, DiskWords}
 use Rattle.gt_machine.specs.Run.{run_of}
 use Rattle.gt_script.proofs.ReadingLemmas.{ends_behind, ends_with_next, script_text_more}
-use Rattle.gt_script.specs.Reading.{BeginsNoLine, BeginsWith, BreaksOff, EndsWithLine, Stops, TakesOneLine}
+use Rattle.gt_script.specs.Reading.{BeginsNoLine, BeginsWith, BreaksOff, EndsWithLine, Refuses, Stops, TakesOneLine}
 use Rattle.gt_script.specs.Script.{EndsBehind, EndsWithNext, ScriptText, most_script_bytes}
 use Rattle.gt_script.specs.declared.line.Line.{Line}
 use Rattle.gt_script.specs.declared.line.Line.TheVariants.{End}
@@ -50,6 +50,12 @@ stops_behind exit setup start line steps out before same stops = absurd stops
 pub carried : (F : Bool → Setup → Bool → Type 0) (honest truth : Bool) (setup opened : Setup) (told telling : Bool) → honest ≡ truth → setup ≡ opened → told ≡ telling → F honest setup told → F truth opened telling
 carried F honest truth setup opened told telling one two three holds =
     subst (λ (h : Bool). F h opened telling) one (subst (λ (s : Setup). F honest s telling) two (subst (λ (t : Bool). F honest setup t) three holds))
+
+-- the ground of a refusal in other words
+pub refuses : {P Q : Type 0} (number : ℕ) (fault : ScriptFault) → (P → Q) → Refuses number P fault → Refuses number Q fault
+refuses number (ReadRefused line) on (is, ground) = (is, on ground)
+refuses number ReadSourceFault on is = tt
+refuses number ReadOutOfMemory on is = tt
 
 -- before the first line
 module _ {D : Type 0} (words : DiskWords D) (laws : DiskLaws words) (session : Session D) (history : List Event) (runs : run_of session.desk.setup history ≡ Some session.desk.ledger.machine)
@@ -128,28 +134,28 @@ module _ {D : Type 0} (words : DiskWords D) (honest : Bool) where
           ends_with_next setup (lines_of so_far.run) text off.gone is (subst (λ n. EndsWithLine setup n off.gone) (sym size) off.at_most_one),
         )
 
-    ended_between : (fault : ScriptFault) → taken ≤ most_script_bytes → (fault ≡ ReadRefused → IsTrue script.told → BeginsNoLine setup taken script.after) → (IsTrue script.told → Stops setup taken script.after after fault)
-        → EndsAs (exit_of_read fault number) setup start so_far.run [] (record script { after = after }) out
-    ended_between ReadRefused fits none off = record {
-      count = ap (λ (n : ℕ). n + 1) (sym so_far.count);
+    ended_between : (fault : ScriptFault) → taken ≤ most_script_bytes → Refuses (number + 1) (IsTrue script.told → BeginsNoLine setup taken script.after) fault → (IsTrue script.told → Stops setup taken script.after after fault)
+        → EndsAs (exit_of_read fault) setup start so_far.run [] (record script { after = after }) out
+    ended_between (ReadRefused line) fits (is, none) off = record {
+      count = is ∙ ap (λ (n : ℕ). n + 1) (sym so_far.count);
       unended = so_far.unended;
       idle = refl;
       read = λ t.
           let (text, is, whole, size) = so_far.read t in
           let (beyond, given, ends) = gave fits t (off t) in
-          ((beyond, given), subst (EndsBehind setup (lines_of so_far.run)) (sym whole) (ends_behind setup (lines_of so_far.run) text script.after is (subst (λ n. BeginsNoLine setup n script.after) (sym size) (none refl t))));
+          ((beyond, given), subst (EndsBehind setup (lines_of so_far.run)) (sym whole) (ends_behind setup (lines_of so_far.run) text script.after is (subst (λ n. BeginsNoLine setup n script.after) (sym size) (none t))));
       written = so_far.written;
     }
     ended_between ReadSourceFault fits none off = record { unended = so_far.unended; idle = refl; read = λ t. gave fits t (off t); written = so_far.written }
     ended_between ReadOutOfMemory fits none off = inl (record { unended = so_far.unended; idle = refl; read = λ t. gave_one fits t (off t); written = so_far.written })
 
     -- no line was read
-    pub not_read : (fault : ScriptFault) (exit : Exit) (disk : D) → exit ≡ exit_of_read fault number → disk ≡ session.desk.disk → taken ≤ most_script_bytes → (fault ≡ ReadRefused → IsTrue script.told → BeginsNoLine setup taken script.after)
+    pub not_read : (fault : ScriptFault) (exit : Exit) (disk : D) → exit ≡ exit_of_read fault → disk ≡ session.desk.disk → taken ≤ most_script_bytes → Refuses (number + 1) (IsTrue script.told → BeginsNoLine setup taken script.after) fault
         → (IsTrue script.told → Stops setup taken script.after after fault) → Ran words honest exit setup start first disk (record script { after = after }) out
     not_read fault exit disk is same fits none off =
         subst (λ (x : Exit). Ran words honest x setup start first disk (record script { after = after }) out) (sym is)
-        (subst (λ (x : D). Ran words honest (exit_of_read fault number) setup start first x (record script { after = after }) out) (sym same)
-        (idle (exit_of_read fault number) (ended_between fault fits none off)))
+        (subst (λ (x : D). Ran words honest (exit_of_read fault) setup start first x (record script { after = after }) out) (sym same)
+        (idle (exit_of_read fault) (ended_between fault fits none off)))
 
     module _ (line : Line) (through : ℕ) (is : IsTrue script.told → BeginsWith setup line taken script.after after through) where
       -- the text with the line

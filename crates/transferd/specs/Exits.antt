@@ -36,11 +36,11 @@ exit_of_open OpenJournalFault = JournalFault
 exit_of_open (OpenDamaged number) = Damaged number
 exit_of_open OpenOutOfMemory = OutOfMemory
 
--- the exit where no line was read behind so many
-abbrev pub exit_of_read : ScriptFault → ℕ → Exit
-exit_of_read ReadRefused ran = ScriptRefused (ran + 1)
-exit_of_read ReadSourceFault ran = SourceFault
-exit_of_read ReadOutOfMemory ran = OutOfMemory
+-- the exit where no line was read
+abbrev pub exit_of_read : ScriptFault → Exit
+exit_of_read (ReadRefused line) = ScriptRefused line
+exit_of_read ReadSourceFault = SourceFault
+exit_of_read ReadOutOfMemory = OutOfMemory
 
 -- the exit that a script of these bytes comes to under the setup where nothing fails
 abbrev pub ScriptExit : Setup → List ℕ → Exit → Type 0

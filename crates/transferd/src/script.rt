@@ -19,13 +19,12 @@ use gt_streams::{Sink, Source};
 use gt_values::Moment;
 use std::alloc::Global;
 
-// The exit where no line was read behind so many.
-fn exit_of_reading(fault: ScriptFault, ran: u64) -> Exit
-    requires { ran < 2 ^ 63 }
-    ensures { result ≡ exit_of_read fault ran }
+// The exit where no line was read.
+fn exit_of_reading(fault: ScriptFault) -> Exit
+    ensures { result ≡ exit_of_read fault }
 {
     match fault {
-        ScriptFault::Refused => Exit::ScriptRefused { line: ran + 1 },
+        ScriptFault::Refused { line } => Exit::ScriptRefused { line },
         ScriptFault::SourceFault => Exit::SourceFault,
         ScriptFault::OutOfMemory => Exit::OutOfMemory,
     }
@@ -67,9 +66,11 @@ pub fn run_script<T: Source, K: Sink, D: Disk>(
     let mut taken = 0;
     let mut ran = 0;
     while taken < SCRIPT_LIMIT {
-        let line = match read_script_line(alloc, session.desk.setup(), script, &mut taken) {
+        let setup = session.desk.setup();
+        let read = read_script_line(alloc, script, setup, ran + 1, &mut taken, ran > 0);
+        let line = match read {
             Ok(line) => line,
-            Err(fault) => return stop(session.desk, exit_of_reading(fault, ran)),
+            Err(fault) => return stop(session.desk, exit_of_reading(fault)),
         };
         match run_line(alloc, session, &line, out) {
             Ok(next) => session = next,

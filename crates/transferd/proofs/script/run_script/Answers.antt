@@ -1,5 +1,5 @@
 use Rattle.gt_disk.specs.Disk.{IsSameDisk}
-use Rattle.gt_script.specs.Reading.{BeginsNoLine, BeginsWith, Stops}
+use Rattle.gt_script.specs.Reading.{BeginsNoLine, BeginsWith, Refuses, Stops}
 use Rattle.gt_script.specs.Script.{most_script_bytes}
 use Rattle.gt_script.specs.declared.line.Line.TheVariants.{End}
 use Rattle.gt_script.specs.declared.line.ScriptFault.TheVariants.{Refused}
@@ -7,7 +7,7 @@ use Rattle.gt_setup.specs.Setup.{Setup}
 use Rattle.gt_script.proofs.FrontLemmas.{full_script}
 use Rattle.gt_streams.specs.Streams.{IsSameSink, IsSameSource}
 use Rattle.std.proofs.Common.{Bool, Err, IsTrue, List, [], ap, arith, refl, subst, ◌++◌, ◌+◌, ◌∙◌, ◌≡◌, ◌≢◌, ◌≤◌, ℕ}
-use Rattle.transferd.proofs.EndingLemmas.{begun, carried, done, more, not_read, stopped}
+use Rattle.transferd.proofs.EndingLemmas.{begun, carried, done, more, not_read, refuses, stopped}
 use Rattle.transferd.proofs.script.run_script.Goals as goal
 use Rattle.transferd.specs.Endings.{Stream, read_from, written_to}
 use Rattle.transferd.specs.Progress.{IsPresent, MadeLine, StoppedLine}
@@ -42,8 +42,9 @@ returns-in-Err-clause-ran g c history runs same =
     let after = g.T.Source.words.left c.read_script_line.new.script in
     let fault = c.in-Err.fault in
     let opened = c.setup.ensures ∙ l.invariant.setup in
-    let none : fault ≡ Refused → IsTrue script.told → BeginsNoLine setup l.taken script.after = λ e t. subst (λ (s : Setup). BeginsNoLine s l.taken script.after) opened (c.in-Err.ensures.refused (ap (λ f. Err f) e) (l.invariant.source.told ∙ t)) in
-    let stops : IsTrue script.told → Stops setup l.taken script.after after fault = λ t. subst (λ (s : Setup). Stops s l.taken script.after after fault) opened (c.in-Err.ensures.stopped (l.invariant.source.told ∙ t)) in
+    let none : Refuses (l.ran + 1) (IsTrue script.told → BeginsNoLine setup l.taken script.after) fault = refuses (l.ran + 1) fault
+    (λ none t. subst (λ (s : Setup). BeginsNoLine s l.taken script.after) opened (none (l.invariant.source.told ∙ t))) c.in-Err.ensures.refused in
+    let stops : IsTrue script.told → Stops setup l.taken script.after after fault = λ t. subst (λ (s : Setup). Stops s l.taken script.after after fault) opened (c.in-Err.ensures.stopped (l.invariant.source.told ∙ t)).0 in
     not_read w honest setup start first.disk l.ran l.session l.taken script out so_far after fault c.stop.result.exit c.stop.result.disk (c.stop.ensures.exit ∙ c.exit_of_reading.ensures) c.stop.ensures.disk l.invariant.fits none stops
 
 pub returns-in-Err-run_line-clause-ran : goal.returns-in-Err-run_line-clause-ran
@@ -107,8 +108,8 @@ loop-taken-preserved g c = record {
     told = c.run_line.ensures.same_out.told ∙ c.loop-taken.invariant.sink.told;
   };
   setup = c.in-Ok-run_line.ensures.setup ∙ c.loop-taken.invariant.setup;
-  number = omega (arith, c.loop-taken.invariant.number, c.in-Ok.ensures.counted);
-  fits = omega (arith, c.in-Ok.ensures.counted);
+  number = omega (arith, c.loop-taken.invariant.number, c.in-Ok.ensures.ok.1);
+  fits = omega (arith, c.in-Ok.ensures.ok.1);
   so_far = λ history runs same.
       let w = g.D.Disk.words in
       let l = c.loop-taken in
@@ -145,4 +146,4 @@ returns-clause-ran g c history runs same =
     let out : Stream = written_to g.K.Sink.words c.args.out.now l.out in
     let so_far = l.invariant.so_far history runs same in
     let full : most_script_bytes ≤ l.taken = omega arith in
-    not_read w honest setup start first.disk l.ran l.session l.taken script out so_far script.after Refused c.stop-2.result.exit c.stop-2.result.disk c.stop-2.ensures.exit c.stop-2.ensures.disk l.invariant.fits (λ e t. full_script setup l.taken script.after full) (λ t. record { gone = []; whole = refl; unfinished = full_script setup l.taken [] full })
+    not_read w honest setup start first.disk l.ran l.session l.taken script out so_far script.after (Refused (l.ran + 1)) c.stop-2.result.exit c.stop-2.result.disk c.stop-2.ensures.exit c.stop-2.ensures.disk l.invariant.fits (refl, λ t. full_script setup l.taken script.after full) (λ t. record { gone = []; whole = refl; unfinished = full_script setup l.taken [] full })
