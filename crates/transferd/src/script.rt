@@ -66,9 +66,14 @@ pub fn run_script<T: Source, K: Sink, D: Disk>(
     let mut taken = 0;
     let mut ran = 0;
     while taken < SCRIPT_LIMIT {
-        let setup = session.desk.setup();
-        let read = read_script_line(alloc, script, setup, ran + 1, &mut taken, ran > 0);
-        let line = match read {
+        let line = match read_script_line(
+            alloc,
+            script,
+            session.desk.setup(),
+            ran + 1,
+            &mut taken,
+            ran > 0,
+        ) {
             Ok(line) => line,
             Err(fault) => return stop(session.desk, exit_of_reading(fault)),
         };
