@@ -169,7 +169,9 @@ fn read_body<S: Source>(
         Ok(()) => {}
         Err(StreamFault::ReadFault) => return Err(ScriptFault::SourceFault),
         Err(StreamFault::OutOfMemory) => return Err(ScriptFault::OutOfMemory),
-        Err(StreamFault::Cut { have: _, want: _ }) => return Err(ScriptFault::Refused { line: number }),
+        Err(StreamFault::Cut { have: _, want: _ }) => return Err(ScriptFault::Refused {
+            line: number,
+        }),
         Err(StreamFault::TooLong { max: _ }) => unreachable!(),
     }
     match body.pop() {
