@@ -63,7 +63,10 @@ fn first_bad_record_is_named(rt: HostRuntime) -> Result<(), Fail> {
     let alloc = rt.alloc();
     assert_eq!(rt; opens(alloc, SETUP, &[])?, Ok(0));
     assert_eq!(rt; opens(alloc, SETUP, &[ISSUED, ISSUED])?, Ok(2));
-    assert_eq!(rt; opens(alloc, SETUP, &[ISSUED, ISSUED, EARLIER, CUT])?, Err(2));
+    assert_eq!(rt;
+        opens(alloc, SETUP, &[ISSUED, ISSUED, EARLIER, CUT])?,
+        Err(2)
+    );
     assert_eq!(rt; opens(alloc, SETUP, &[NO_EVENT, CUT])?, Err(0));
     assert_eq!(rt; opens(alloc, SETUP, &[ISSUED, CUT])?, Err(1));
     Ok(())

@@ -90,7 +90,9 @@ fn asked(alloc: Global, count: u32) -> Result<Command, Fail>
     let event = decode(alloc, SUBMITTED)?;
     match event.what {
         Happening::SubmitTransfer {
-            submission, spec, ..
+            submission,
+            spec,
+            ..
         } => {
             if spec.source >= count || spec.destination >= count {
                 return Err("the setup is another")?;
