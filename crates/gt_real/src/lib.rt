@@ -1,4 +1,4 @@
-//! The real devices: a journal's file, standard streams and files as streams.
+//! The real devices: a journal's file, standard streams and files as streams, a port, and the clock.
 //!
 //! Each is made with the name by which a person knows it, counts its faults, and says the first hundred of them on
 //! standard error (`src/faults.rt`). None tells what it holds: of each it is proved that a call fails exactly where its
@@ -8,12 +8,18 @@
 mod crossing;
 mod faults;
 mod file_disk;
+mod real_clock;
 mod std_sink;
 mod std_source;
+mod tcp_door;
+mod tcp_link;
 #[cfg(test)]
 mod tests;
 
 pub use crossing::{send_disk, send_sink, send_source};
 pub use file_disk::{FileDisk, FileFault};
+pub use real_clock::RealClock;
 pub use std_sink::StdSink;
 pub use std_source::StdSource;
+pub use tcp_door::TcpDoor;
+pub use tcp_link::{TcpIn, TcpOut};

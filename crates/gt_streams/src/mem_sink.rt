@@ -5,7 +5,7 @@ ghost use Rattle.std.specs.Prelude.{IfOk, IsErr, [], length, ◌<◌, ◌≡◌,
 
 use crate::Sink;
 use gt_causes::{CallCounts, Failed};
-use std::alloc::Global;
+use std::alloc::{AllocError, Global};
 use std::marker::Model;
 
 /// A sink in memory. It tells what it took.
@@ -47,6 +47,17 @@ impl MemSink {
         ensures { result.now ≡ self.now.taken }
     {
         &self.bytes
+    }
+
+    // The same sink once more.
+    pub(crate) fn copy(&self, alloc: Global) -> Result<MemSink, AllocError>
+        ensures { IfOk result (λ sink. sink ≡ self.now) }
+    {
+        Ok(MemSink {
+            bytes: self.bytes.to_vec(alloc)?,
+            piece: self.piece,
+            counts: self.counts.copy(alloc)?,
+        })
     }
 
     /// How often a write found no memory. The number stops at 2^64 - 1.

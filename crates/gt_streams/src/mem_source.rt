@@ -5,6 +5,7 @@ ghost use Rattle.std.specs.Prelude.{IfOk, IsErr, length, ◌≡◌, ◌≤◌};
 
 use crate::Source;
 use gt_causes::{CallCounts, Failed};
+use std::alloc::{AllocError, Global};
 use std::marker::Model;
 
 /// A source in memory. It tells its bytes.
@@ -45,6 +46,18 @@ impl MemSource {
             piece,
             counts: CallCounts::new(fails),
         }
+    }
+
+    // The same source once more.
+    pub(crate) fn copy(&self, alloc: Global) -> Result<MemSource, AllocError>
+        ensures { IfOk result (λ source. source ≡ self.now) }
+    {
+        Ok(MemSource {
+            bytes: self.bytes.to_vec(alloc)?,
+            at: self.at,
+            piece: self.piece,
+            counts: self.counts.copy(alloc)?,
+        })
     }
 }
 
