@@ -20,8 +20,8 @@ const DROPPED: usize = 8 << 20;
 
 const READS: u32 = 512;
 
-// How long each of these reads waits.
-const PATIENCE: Duration = Duration::from_secs(1);
+// How long each of these reads waits, in seconds.
+const PATIENCE: u64 = 1;
 
 /// The side of a connection to read.
 #[derive(Drop)]
@@ -89,7 +89,10 @@ impl TcpIn {
             to: _,
             faults,
         } = self;
-        if stream.set_read_timeout(Some(PATIENCE)).is_ok() {
+        if stream
+            .set_read_timeout(Some(Duration::from_secs(PATIENCE)))
+            .is_ok()
+        {
             drop_rest(&stream, &mut ahead);
         }
         drop(faults);

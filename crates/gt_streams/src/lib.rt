@@ -2,12 +2,13 @@
 //!
 //! A `Source` gives bytes and a `Sink` takes them, both in pieces of their own choosing. `read_line`, `read_exactly` and
 //! `write_all` put the pieces together, and say of each answer which bytes were taken or written (`specs/Reading.antt`).
-//! A `Door` hands out links,
-//! each a source and a sink. `MemSource`, `MemSink` and `MemDoor` hold what they give and take in memory, and fail at the
-//! calls that they are told to fail at.
+//! A `Door` hands out links, each a source and a sink. `MemSource`, `MemSink` and `MemDoor` hold what they give and take
+//! in memory, and fail at the calls that they are told to fail at.
 #![tactic(auto)]
 
 mod door;
+#[cfg(test)]
+mod door_tests;
 mod exact;
 mod line;
 mod mem_door;

@@ -66,7 +66,7 @@ impl MemDoor {
 
     /// The link that was given back at this place, counted from 0. There is none exactly where so many weren't given back.
     pub fn link(&self, place: u64) -> Option<&(MemSource, MemSink)>
-        ensures { option_copied result ≡ slice_get self.now.back place }
+        ensures value { option_copied result ≡ slice_get self.now.back place }
     {
         self.back.get(usize::try_from(place).ok()?)
     }
