@@ -6,6 +6,8 @@
 #![tactic(auto)]
 
 mod crossing;
+#[cfg(test)]
+mod door_tests;
 mod faults;
 mod file_disk;
 mod real_clock;
@@ -16,7 +18,7 @@ mod tcp_link;
 #[cfg(test)]
 mod tests;
 
-pub use crossing::{send_disk, send_sink, send_source};
+pub use crossing::{send_clock, send_disk, send_door, send_link, send_sink, send_source};
 pub use file_disk::{FileDisk, FileFault};
 pub use real_clock::RealClock;
 pub use std_sink::StdSink;

@@ -1,4 +1,5 @@
 ghost use Rattle.gt_values.specs.Moment.{last_moment};
+ghost use Rattle.std.specs.Prelude.{◌<◌, ◌≡◌, ◌≤◌};
 
 use gt_values::{Clock, Moment};
 use std::time::{SystemTime, UNIX_EPOCH};

@@ -1,8 +1,7 @@
 ghost use Rattle.gt_causes.specs.Causes.{HasFailed};
-ghost use Rattle.gt_causes.specs.Counts.{counted};
-ghost use Rattle.gt_real.specs.Doors.{RealDoor, real_words};
+ghost use Rattle.gt_real.specs.Doors.{CountsLinks, real_words};
 ghost use Rattle.gt_streams.specs.Doors.{AsksNext, IsSameDoor, TakesBack};
-ghost use Rattle.std.specs.Prelude.{IfOk, IsErrOf, OnOk, false, true, ◌≡◌, ◌≤◌};
+ghost use Rattle.std.specs.Prelude.{IfOk, IsErrOf, false, true, ◌≡◌};
 
 use crate::faults::Faults;
 use crate::tcp_link::{TcpIn, TcpOut, ends_of};
@@ -68,7 +67,13 @@ impl Door for TcpDoor {
         self.faults.count()
     }
 
-    fn next_link(&mut self, alloc: Global) -> Result<Option<(TcpIn, TcpOut)>, DoorFault> {
+    fn next_link(&mut self, alloc: Global) -> Result<Option<(TcpIn, TcpOut)>, DoorFault>
+        requires { self.old.is_out ≡ false }
+        ensures same { IsSameDoor real_words self.old self.new }
+        ensures cause { IsErrOf result DoorFault.Failed → HasFailed real_words.faults self.old self.new }
+        ensures value { AsksNext real_words self.old result self.new }
+        ensures counted { CountsLinks self.old result self.new }
+    {
         let stream = match accept(&self.listener) {
             Ok(stream) => stream,
             Err(error) => {
@@ -85,7 +90,11 @@ impl Door for TcpDoor {
         }
     }
 
-    fn give_back(&mut self, link: (TcpIn, TcpOut)) {
+    fn give_back(&mut self, link: (TcpIn, TcpOut))
+        requires { self.old.is_out ≡ true }
+        ensures same { IsSameDoor real_words self.old self.new }
+        ensures value { TakesBack real_words self.old self.new }
+    {
         let (source, sink) = link;
         sink.end();
         source.drain();

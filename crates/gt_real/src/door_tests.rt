@@ -1,0 +1,112 @@
+// Connections over a real port: a peer that reads its reply to the end, one that sent more than was read, and one that
+// never reads. And the clock.
+ghost use Rattle.std.specs.Prelude.{false, ◌≡◌};
+
+use crate::real_clock::moment_of;
+use crate::{RealClock, TcpDoor};
+use gt_streams::{Door, DoorFault, Source, write_all};
+use gt_values::{Clock, Moment};
+use std::alloc::Global;
+use std::io::{self, Read, Write};
+use std::net::{Ipv4Addr, Net, Shutdown, SocketAddr, SocketAddrV4, TcpListener, TcpStream};
+use std::test::Fail;
+use std::thread::join;
+
+const REPLY: &[u8] = b"what was asked for\n";
+
+// A message of more bytes than a connection holds unread, of which a link reads the first alone.
+const LONG: usize = 3_000_000;
+
+// Serves one link: reads once, answers, and gives it back. How many bytes were read.
+fn serve(alloc: Global, door: &mut TcpDoor) -> Result<usize, DoorFault>
+    requires { door.old.is_out ≡ false }
+    ensures { door.new.is_out ≡ false }
+{
+    let Some((mut source, mut sink)) = door.next_link(alloc)? else {
+        return Ok(0);
+    };
+    let mut into = [0u8; 5];
+    let read = source.read(&mut into).unwrap_or(0);
+    let _ = write_all(&mut sink, REPLY);
+    door.give_back((source, sink));
+    Ok(read)
+}
+
+fn connect<R: Net<Listener = TcpListener, Stream = TcpStream>>(
+    rt: &R,
+    port: u16,
+) -> io::Result<TcpStream> {
+    let address = SocketAddr::V4(SocketAddrV4::new(Ipv4Addr::LOCALHOST, port));
+    TcpStream::connect(rt, address)
+}
+
+// Sends so many bytes, and reads the reply to its end. How many bytes of the reply came.
+fn ask<R: Net<Listener = TcpListener, Stream = TcpStream>>(
+    rt: &R,
+    alloc: Global,
+    port: u16,
+    bytes: usize,
+) -> io::Result<usize> {
+    let mut stream = connect(rt, port)?;
+    let message = vec![in alloc; b'm'; bytes]?;
+    stream.write_all(&message)?;
+    stream.shutdown(Shutdown::Write)?;
+    let mut reply = Vec::new(alloc);
+    stream.read_to_end(&mut reply)?;
+    if reply.as_slice() == REPLY {
+        Ok(reply.len())
+    } else {
+        Ok(0)
+    }
+}
+
+// Sends, and goes away with nothing read.
+fn never_read<R: Net<Listener = TcpListener, Stream = TcpStream>>(
+    rt: &R,
+    port: u16,
+) -> io::Result<usize> {
+    let mut stream = connect(rt, port)?;
+    stream.write_all(b"hello")?;
+    Ok(5)
+}
+
+#[test]
+fn replies_reach_their_peer(rt: HostRuntime) -> Result<(), Fail> {
+    let alloc = rt.alloc();
+    let mut door = TcpDoor::bind(&rt, 0)?;
+    let port = door.port()?;
+    assert!(rt; port > 0);
+    for bytes in [5, LONG] {
+        let (served, asked) = join(
+            &rt,
+            || serve(alloc, &mut door),
+            || ask(&rt, alloc, port, bytes),
+        );
+        assert_eq!(rt; served, Ok(5));
+        assert_eq!(rt; asked?, REPLY.len());
+    }
+    let (served, asked) = join(&rt, || serve(alloc, &mut door), || never_read(&rt, port));
+    assert_eq!(rt; served, Ok(5));
+    assert_eq!(rt; asked?, 5);
+    assert_eq!(rt; door.faults(), 0);
+    Ok(())
+}
+
+#[test]
+fn port_in_use_is_refused(rt: HostRuntime) -> Result<(), Fail> {
+    let door = TcpDoor::bind(&rt, 0)?;
+    let port = door.port()?;
+    assert!(rt; TcpDoor::bind(&rt, port).is_err());
+    Ok(())
+}
+
+#[test]
+fn clock_tells_a_moment_in_range(rt: HostRuntime) -> Result<(), Fail> {
+    assert_eq!(rt; moment_of(253_402_300_799).seconds(), 253_402_300_799);
+    assert_eq!(rt; moment_of(253_402_300_800), Moment::zero());
+    let clock = RealClock::new(rt);
+    let first = clock.now();
+    assert!(rt; first.seconds() > 1_700_000_000);
+    assert!(rt; clock.now() >= first);
+    Ok(())
+}
