@@ -1,6 +1,6 @@
-pub mod BestLemmas
-pub mod FiledLemmas
-pub mod FrontLemmas
-pub mod LastLemmas
-pub mod NumberLemmas
-pub mod TableLemmas
+mod BestLemmas
+mod FiledLemmas
+mod FrontLemmas
+mod LastLemmas
+mod NumberLemmas
+mod TableLemmas

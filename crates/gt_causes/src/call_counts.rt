@@ -1,7 +1,8 @@
-ghost use Rattle.std.specs.Prelude.{Contains, IsErr, OnOk, ◌≡◌, ◌≤◌, ◌↔◌, ℕ};
+ghost use Rattle.std.specs.Prelude.{Contains, IfOk, IsErr, OnOk, ◌≡◌, ◌≤◌, ◌↔◌, ℕ};
 ghost use Rattle.gt_causes.specs.Counts.{IsListed, after_answer, after_fault, counted};
 
 use crate::{CallList, Failed};
+use std::alloc::{AllocError, Global};
 use std::marker::Model;
 
 /// What a device in memory counts: its calls, those that failed, and those that found no memory. Each number stops at
@@ -19,7 +20,12 @@ impl Model for CallCounts {
 
     ghost Value = { Counts };
 
-    ghost view = { λ c. record { fails = c.fails; calls = c.calls; faults = c.faults; starved = c.starved } };
+    ghost view = { λ c. record {
+      fails = c.fails;
+      calls = c.calls;
+      faults = c.faults;
+      starved = c.starved;
+    } };
 }
 
 impl CallCounts {
@@ -35,6 +41,18 @@ impl CallCounts {
             faults: 0,
             starved: 0,
         }
+    }
+
+    /// The same counts once more, for a device that is copied.
+    pub fn copy(&self, alloc: Global) -> Result<CallCounts, AllocError>
+        ensures { IfOk result (λ counts. counts ≡ self.now) }
+    {
+        Ok(CallCounts {
+            fails: self.fails.copy(alloc)?,
+            calls: self.calls,
+            faults: self.faults,
+            starved: self.starved,
+        })
     }
 
     /// Counts a call, which fails exactly where it is listed.

@@ -1,5 +1,6 @@
-ghost use Rattle.std.specs.Prelude.{Contains, IsTrue, ◌↔◌, ℕ};
+ghost use Rattle.std.specs.Prelude.{Contains, IfOk, IsTrue, ◌↔◌, ◌≡◌, ℕ};
 
+use std::alloc::{AllocError, Global};
 use std::marker::Model;
 
 /// Numbers of calls. They are kept in order, so that each look takes few steps.
@@ -27,6 +28,15 @@ impl CallList {
         let mut sorted = numbers;
         sorted.sort_unstable();
         CallList { sorted }
+    }
+
+    /// The same numbers once more.
+    pub fn copy(&self, alloc: Global) -> Result<CallList, AllocError>
+        ensures { IfOk result (λ list. list ≡ self.now) }
+    {
+        Ok(CallList {
+            sorted: self.sorted.to_vec(alloc)?,
+        })
     }
 
     /// Whether the number is one of them.

@@ -1,2 +1,2 @@
-pub mod EntryLemmas
-pub mod LeastLemmas
+mod EntryLemmas
+mod LeastLemmas

@@ -31,7 +31,10 @@ impl Model for Claims {
 
     ghost coded = { claim_table_code the_row.coded };
 
-    ghost view = { λ c. record { claims = from_entries c.entries.items; spare = vec_capacity c.entries - vec_len c.entries } };
+    ghost view = { λ c. record {
+      claims = from_entries c.entries.items;
+      spare = vec_capacity c.entries - vec_len c.entries;
+    } };
 
     ghost invariant = { λ c. IsEachOnce c.entries.items };
 }
@@ -62,7 +65,8 @@ impl Claims {
     /// writes.
     pub fn conflict(&self, act: &Act, source: u32, destination: u32) -> Option<u64>
         ensures least { IfSome result (IsLeastConflict source destination act.now self.now.claims) }
-        ensures none { IsNone result → (item : ℕ) → is_in_conflict source destination act.now self.now.claims item ≡ false }
+        ensures none { IsNone result → (item : ℕ)
+            → is_in_conflict source destination act.now self.now.claims item ≡ false }
     {
         self.least(&InConflict {
             act,
@@ -75,7 +79,8 @@ impl Claims {
     /// Takes no memory.
     pub fn user_of(&self, collection: u32, path: &Path) -> Option<u64>
         ensures least { IfSome result (IsLeastClaimed (uses collection path.now) self.now.claims) }
-        ensures none { IsNone result → (item : ℕ) → is_claimed_with (uses collection path.now) self.now.claims item ≡ false }
+        ensures none { IsNone result → (item : ℕ)
+            → is_claimed_with (uses collection path.now) self.now.claims item ≡ false }
     {
         self.least(&Uses { collection, path })
     }
@@ -83,7 +88,8 @@ impl Claims {
     // The least item whose claim passes.
     fn least<T: Test>(&self, asked: &T) -> Option<u64>
         ensures least { IfSome result (IsLeastClaimed (T.test asked.now) self.now.claims) }
-        ensures none { IsNone result → (item : ℕ) → is_claimed_with (T.test asked.now) self.now.claims item ≡ false }
+        ensures none { IsNone result → (item : ℕ)
+            → is_claimed_with (T.test asked.now) self.now.claims item ≡ false }
     {
         let mut least = None;
         for (item, claim) in &self.entries {
@@ -125,7 +131,8 @@ fn lesser(item: u64, least: Option<u64>) -> u64
 
 // Drops the entries of the item.
 fn drop_entry(entries: &mut Vec<(u64, Claim)>, item: u64)
-    ensures entries { entries.new.items ≡ filter (λ entry. not (nat_eq entry.0 item)) entries.old.items }
+    ensures entries { entries.new.items
+        ≡ filter (λ entry. not (nat_eq entry.0 item)) entries.old.items }
     ensures bound { vec_len entries.new ≤ vec_len entries.old }
     ensures capacity { vec_capacity entries.new ≡ vec_capacity entries.old }
 {

@@ -72,7 +72,9 @@ fn in_conflict(act: &Act, source: u32, destination: u32, claim: &Claim) -> bool
 
 // The path that the act writes. It lies on the destination collection.
 fn written_path(act: &Act) -> &Path
-    ensures { (source destination : ℕ) → written_spot source destination act.now ≡ record { collection = destination; path = result.now } }
+    ensures { (source destination : ℕ)
+        → written_spot source destination act.now
+        ≡ record { collection = destination; path = result.now } }
 {
     match act {
         Act::Transfer { destination, .. } => destination,
@@ -82,7 +84,9 @@ fn written_path(act: &Act) -> &Path
 
 // Whether the act on its collections reads or writes a path that overlaps with this path of this collection.
 fn touches(act: &Act, source: u32, destination: u32, collection: u32, path: &Path) -> bool
-    ensures { result ≡ list_any (meet (record { collection = collection; path = path.now })) (touched_spots source destination act.now) }
+    ensures { result
+        ≡ list_any (meet (record { collection = collection; path = path.now }))
+        (touched_spots source destination act.now) }
 {
     match act {
         Act::Transfer {

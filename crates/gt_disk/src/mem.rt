@@ -28,7 +28,11 @@ impl Model for MemDisk {
 
     ghost Value = { MemFile };
 
-    ghost view = { λ m. record { start = m.start.items; steps = steps_of m.noted.items; counts = m.counts } };
+    ghost view = { λ m. record {
+      start = m.start.items;
+      steps = steps_of m.noted.items;
+      counts = m.counts;
+    } };
 
     ghost invariant = { λ m. IsReplayed m.start.items (steps_of m.noted.items) m.bytes.items };
 }

@@ -1,4 +1,4 @@
-pub mod BodyLemmas
-pub mod CountLemmas
-pub mod LawLemmas
-pub mod PlaceLemmas
+mod BodyLemmas
+mod CountLemmas
+mod LawLemmas
+mod PlaceLemmas

@@ -40,8 +40,10 @@ pub fn items<R: ReadItem>(
     most: usize,
     reader: &R,
 ) -> Result<Vec<R::Item>, DocumentFault>
-    ensures value { ReadsWith (λ v. v.items) (items_at (R.reading reader.now) least most (view object.now) list.now) result }
-    ensures count { IfOk result (λ v. (nat_le least (length v.items) && nat_le (length v.items) most) ≡ true) }
+    ensures value { ReadsWith (λ v. v.items)
+        (items_at (R.reading reader.now) least most (view object.now) list.now) result }
+    ensures count { IfOk result
+        (λ v. (nat_le least (length v.items) && nat_le (length v.items) most) ≡ true) }
     ensures good { IfOk result (λ v. list_all (R.is_good reader.now) v.items ≡ true) }
 {
     match list_in(object, list) {
@@ -54,7 +56,8 @@ pub fn items<R: ReadItem>(
 
 /// The values of the list that a member is. An absent list has none.
 pub fn list_in<'a>(object: &'a Value, name: &str) -> Option<&'a [Value]>
-    ensures { option_map (λ values. items_view values.now) result ≡ listed (member_of (view object.now) name.now) }
+    ensures { option_map (λ values. items_view values.now) result
+        ≡ listed (member_of (view object.now) name.now) }
 {
     match member(object, name) {
         Some(value) => Some(value.as_array()?.as_slice()),
@@ -69,7 +72,8 @@ fn each_item<R: ReadItem>(
     list: &'static str,
     reader: &R,
 ) -> Result<Vec<R::Item>, DocumentFault>
-    ensures value { ReadsWith (λ v. v.items) (items_from (R.reading reader.now) list.now 0 (items_view values.now)) result }
+    ensures value { ReadsWith (λ v. v.items)
+        (items_from (R.reading reader.now) list.now 0 (items_view values.now)) result }
     ensures count { IfOk result (λ v. length v.items ≡ length values.now) }
     ensures good { IfOk result (λ v. list_all (R.is_good reader.now) v.items ≡ true) }
 {

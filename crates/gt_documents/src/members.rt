@@ -21,7 +21,8 @@ use std::alloc::Global;
 /// something else than an absent member.
 #[tactic(auto, unfolding(crate::specs::Members::given_at))]
 pub fn given<'a>(object: &'a Value, name: &str) -> Option<Option<&'a Value>>
-    ensures { option_map (λ given. option_map (λ value. view value.now) given) result ≡ given_at (view object.now) name.now }
+    ensures { option_map (λ given. option_map (λ value. view value.now) given) result
+        ≡ given_at (view object.now) name.now }
 {
     let value = object.get(name)?;
     if value.is_null() {

@@ -64,7 +64,8 @@ impl Model for Place {
 
     ghost Value = { List Step };
 
-    ghost view = { λ p. steps_of p.first (steps_of p.second (steps_of p.third (steps_of p.fourth []))) };
+    ghost view = { λ p. steps_of p.first
+        (steps_of p.second (steps_of p.third (steps_of p.fourth []))) };
 }
 
 impl Place {
@@ -142,7 +143,9 @@ impl Place {
 
 // How a step behind others is written, with what stands behind it; nothing, without a step.
 fn text_behind(alloc: Global, step: &Option<Step>, rest: &str) -> Result<String, AllocError>
-    ensures { IfOk result (λ text. (steps : _) → rest.now ≡ steps_text steps → string_bytes text ≡ steps_text (steps_of step.now steps)) }
+    ensures { IfOk result
+        (λ text. (steps : _) → rest.now ≡ steps_text steps
+        → string_bytes text ≡ steps_text (steps_of step.now steps)) }
 {
     match step {
         Some(Step::Member(name)) => member_text(alloc, name.as_str(), rest),
@@ -161,7 +164,8 @@ fn member_text(alloc: Global, name: &str, rest: &str) -> Result<String, AllocErr
 // How an item of a list is written, with what stands behind it.
 #[tactic(auto, using(crate::proofs::PlaceLemmas::item_then))]
 fn item_text(alloc: Global, at: u64, rest: &str) -> Result<String, AllocError>
-    ensures { IfOk result (λ text. string_bytes text ≡ codes "[" ++ decimal at ++ codes "]" ++ rest.now) }
+    ensures { IfOk result
+        (λ text. string_bytes text ≡ codes "[" ++ decimal at ++ codes "]" ++ rest.now) }
 {
     let item = format!(in alloc; "[{at}]")?;
     joined(alloc, item.as_str(), rest)

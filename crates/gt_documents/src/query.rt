@@ -22,7 +22,9 @@ pub struct Page {
 #[tactic(auto, unfolding(crate::specs::Query::page_at))]
 pub fn read_page(alloc: Global, query: &[u8]) -> Result<Page, DocumentFault>
     ensures value { ReadsAs (page_at query.now) result }
-    ensures limits { IfOk result (λ page. (nat_le 1 page.limit && nat_le page.limit 1000 && nat_lt page.offset (2 ^ 64)) ≡ true) }
+    ensures limits { IfOk result
+        (λ page. (nat_le 1 page.limit && nat_le page.limit 1000 && nat_lt page.offset (2 ^ 64))
+        ≡ true) }
 {
     let limit = first_value(alloc, query, "limit")?;
     let offset = first_value(alloc, query, "offset")?;
@@ -51,8 +53,11 @@ pub fn first_value<'a>(
 
 // The page of these two values.
 fn page_from(limit: Option<&CowStr<'_>>, offset: Option<&CowStr<'_>>) -> Option<Page>
-    ensures value { result ≡ page_of (option_map (λ t. cow_str_bytes t.now) limit.entry) (option_map (λ t. cow_str_bytes t.now) offset.entry) }
-    ensures limits { IfSome result (λ page. (nat_le 1 page.limit && nat_le page.limit 1000) ≡ true) }
+    ensures value { result
+        ≡ page_of (option_map (λ t. cow_str_bytes t.now) limit.entry)
+        (option_map (λ t. cow_str_bytes t.now) offset.entry) }
+    ensures limits { IfSome result
+        (λ page. (nat_le 1 page.limit && nat_le page.limit 1000) ≡ true) }
 {
     let limit = limit_from(limit)?;
     let offset = offset_from(offset)?;

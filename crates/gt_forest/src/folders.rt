@@ -64,7 +64,8 @@ pub(crate) fn put_entry(
 /// Puts this under a name that is there, in place of what has it. Takes no memory.
 pub(crate) fn set_entry(folders: &mut Folders, path: &[Name], name: &Name, node: Node)
     requires { IsSome (entry_at (folder_rows folders.old) path.now name.now) }
-    ensures { PutsEntry path.now name.now (Some node) (folder_rows folders.old) (folder_rows folders.new) }
+    ensures { PutsEntry path.now name.now (Some node) (folder_rows folders.old)
+        (folder_rows folders.new) }
 {
     if let Some(contents) = folders.get_mut(path) {
         if let Some(place) = contents.get_mut(name) {

@@ -61,7 +61,8 @@ pub trait Forest {
         ensures same { IsSameForest words self.old self.new }
         ensures cause { IsCounted words self.old result self.new }
         ensures fault { IfErr result (λ fault. IsTrue (may_answer_taking fault)) }
-        ensures ok { IfOk result (λ entries. IsInOrder (option_copied after.entry) limit entries.items) }
+        ensures ok { IfOk result
+            (λ entries. IsInOrder (option_copied after.entry) limit entries.items) }
         ensures told { OnTold words self.old self.new
             (ListAnswer collection path.now (option_copied after.entry) limit
             (result_map_both (λ entries. entries.items) (λ fault. fault) result)) }
@@ -108,7 +109,8 @@ pub trait Forest {
         ensures same { IsSameForest words self.old self.new }
         ensures cause { IsCounted words self.old result self.new }
         ensures fault { IfErr result (λ fault. IsTrue (may_answer_taking fault)) }
-        ensures told { OnTold words self.old self.new (StageAppendAnswer collection key bytes.now result) }
+        ensures told { OnTold words self.old self.new
+            (StageAppendAnswer collection key bytes.now result) }
         ensures images { LeavesAt words self.old collection None (Some key) result self.new };
 
     /// Makes the path a file with the bytes of a staging file and this time, in place of an older file; the staging file
@@ -126,8 +128,10 @@ pub trait Forest {
         ensures same { IsSameForest words self.old self.new }
         ensures cause { IsCounted words self.old result self.new }
         ensures fault { IfErr result (λ fault. IsTrue (may_answer_taking fault)) }
-        ensures told { OnTold words self.old self.new (StagePlaceAnswer collection key path.now mtime result) }
-        ensures images { LeavesAt words self.old collection (Some path.now) (Some key) result self.new };
+        ensures told { OnTold words self.old self.new
+            (StagePlaceAnswer collection key path.now mtime result) }
+        ensures images { LeavesAt words self.old collection (Some path.now)
+            (Some key) result self.new };
 
     /// Takes a staging file away. `NotFound` where there is none. After `Fault` it is done or it isn't.
     fn stage_drop(&mut self, collection: u32, key: u64) -> Result<(), TreeFault>
@@ -154,7 +158,8 @@ pub trait Forest {
         ensures same { IsSameForest words self.old self.new }
         ensures cause { IsCounted words self.old result self.new }
         ensures fault { IfErr result (λ fault. IsTrue (may_answer fault)) }
-        ensures told { OnTold words self.old self.new (RemoveFileAnswer collection path.now result) }
+        ensures told { OnTold words self.old self.new
+            (RemoveFileAnswer collection path.now result) }
         ensures images { LeavesAt words self.old collection (Some path.now) None result self.new };
 
     /// Removes an empty folder. `Denied` also at the root, `WrongKind` on a file, `NotEmpty` on a folder with entries.

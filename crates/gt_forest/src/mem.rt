@@ -42,7 +42,13 @@ impl Model for MemForest {
 
     ghost Value = { MemState };
 
-    ghost view = { λ m. record { trees = m.trees.items; denied = m.denied.items; corrupt = m.corrupt; counts = m.counts; appends = m.appends } };
+    ghost view = { λ m. record {
+      trees = m.trees.items;
+      denied = m.denied.items;
+      corrupt = m.corrupt;
+      counts = m.counts;
+      appends = m.appends;
+    } };
 
     ghost invariant = { λ m. length m.trees.items < 2 ^ 32 };
 }
@@ -57,8 +63,10 @@ impl MemForest {
         fails: Vec<u64>,
         corrupt: Vec<u64>,
     ) -> Result<MemForest, AllocError>
-        ensures ok { IfOk result (λ forest. IsMade count denied.items fails.items corrupt.items forest) }
-        ensures faithful { IfOk result (λ forest. (forest_trees forest).is_faithful ≡ (length corrupt.items == 0)) }
+        ensures ok { IfOk result
+            (λ forest. IsMade count denied.items fails.items corrupt.items forest) }
+        ensures faithful { IfOk result
+            (λ forest. (forest_trees forest).is_faithful ≡ (length corrupt.items == 0)) }
         ensures empty { IfOk result (λ forest. (collection : ℕ) → collection < count
             → (forest_trees forest).tree collection ≡ empty_tree) }
     {
@@ -156,7 +164,8 @@ impl Forest for MemForest {
         requires { collection < length self.old.trees }
         ensures whole { IsCall self.old self.new self.old.appends result }
         ensures fault { IfErr result (λ fault. IsTrue (may_answer_taking fault)) }
-        ensures ok { IfOk result (λ entries. IsInOrder (option_copied after.entry) limit entries.items) }
+        ensures ok { IfOk result
+            (λ entries. IsInOrder (option_copied after.entry) limit entries.items) }
         ensures told { ListAnswer collection path.now (option_copied after.entry) limit
             (result_map_both (λ entries. entries.items) (λ fault. fault) result)
             (forest_trees self.old) (forest_trees self.new) }

@@ -27,7 +27,8 @@ pub(crate) fn place_stage(
     ensures file { OnOk result (PutsEntry path.now name.now
         (option_map (λ bytes. File bytes mtime) (staged_at (stage_rows stages.old) key))
         (folder_rows folders.old) (folder_rows folders.new)) }
-    ensures gone { OnOk result (PutsStage key None (stage_rows stages.old) (stage_rows stages.new)) }
+    ensures gone { OnOk result
+        (PutsStage key None (stage_rows stages.old) (stage_rows stages.new)) }
     ensures err { OnErr result (SameFolders (folder_rows folders.old) (folder_rows folders.new)) }
     ensures kept { OnErr result (stage_rows stages.new ≡ stage_rows stages.old) }
 {

@@ -18,7 +18,8 @@ pub(crate) fn has_stage(stages: &Stages, key: u64) -> bool
 
 /// An empty staging file, in place of an older one.
 pub(crate) fn open_stage(alloc: Global, stages: &mut Stages, key: u64) -> Result<(), AllocError>
-    ensures ok { OnOk result (PutsStage key (Some []) (stage_rows stages.old) (stage_rows stages.new)) }
+    ensures ok { OnOk result
+        (PutsStage key (Some []) (stage_rows stages.old) (stage_rows stages.new)) }
     ensures err { OnErr result (stage_rows stages.new ≡ stage_rows stages.old) }
 {
     stages.insert(key, Vec::new(alloc))?;
@@ -59,7 +60,8 @@ pub(crate) fn append_stage(
 
 /// Takes a staging file away, and gives its bytes.
 pub(crate) fn take_stage(stages: &mut Stages, key: u64) -> Option<Vec<u8>>
-    ensures bytes { option_map (λ bytes. bytes.items) result ≡ staged_at (stage_rows stages.old) key }
+    ensures bytes { option_map (λ bytes. bytes.items) result
+        ≡ staged_at (stage_rows stages.old) key }
     ensures gone { PutsStage key None (stage_rows stages.old) (stage_rows stages.new) }
 {
     stages.remove(&key)

@@ -34,7 +34,11 @@ impl Model for MemTree {
 
     ghost Value = { TreeRows };
 
-    ghost view = { λ t. record { root = t.root; folders = folder_rows t.folders; stages = stage_rows t.stages } };
+    ghost view = { λ t. record {
+      root = t.root;
+      folders = folder_rows t.folders;
+      stages = stage_rows t.stages;
+    } };
 
     ghost invariant = { λ t. IsWhole t.root (folder_rows t.folders) };
 }
@@ -76,8 +80,10 @@ impl MemTree {
 
     /// Why a path is no folder that is there.
     fn not_folder(&self, path: &Path) -> TreeFault
-        ensures absent { is_none ((tree_of self.now).nodes path.now) ≡ true → result ≡ TreeFault.NotFound }
-        ensures file { is_some ((tree_of self.now).nodes path.now) ≡ true → result ≡ TreeFault.WrongKind }
+        ensures absent { is_none ((tree_of self.now).nodes path.now) ≡ true
+            → result ≡ TreeFault.NotFound }
+        ensures file { is_some ((tree_of self.now).nodes path.now) ≡ true
+            → result ≡ TreeFault.WrongKind }
     {
         match self.node(path) {
             Some(_) => TreeFault::WrongKind,
@@ -89,7 +95,8 @@ impl MemTree {
     pub(crate) fn stat(&self, denied: bool, path: &Path) -> Result<Stat, TreeFault>
         ensures answer { Stats denied (tree_of self.now) path.now result }
         ensures room { IfOk result (λ stat. IsBounded stat) }
-        ensures fault { IfErr result (λ fault. IsTrue (may_answer_stat fault && not (is_failure fault))) }
+        ensures fault { IfErr result
+            (λ fault. IsTrue (may_answer_stat fault && not (is_failure fault))) }
     {
         if denied {
             return Err(TreeFault::Denied);
@@ -111,8 +118,10 @@ impl MemTree {
     ) -> Result<Vec<Entry>, TreeFault>
         ensures answer { Lists denied (tree_of self.now) path.now (option_copied after.entry) limit
             (result_map_both (λ entries. entries.items) (λ fault. fault) result) }
-        ensures ok { IfOk result (λ entries. IsInOrder (option_copied after.entry) limit entries.items) }
-        ensures fault { IfErr result (λ fault. IsTrue (may_answer_taking fault && not (is_failure fault))) }
+        ensures ok { IfOk result
+            (λ entries. IsInOrder (option_copied after.entry) limit entries.items) }
+        ensures fault { IfErr result
+            (λ fault. IsTrue (may_answer_taking fault && not (is_failure fault))) }
     {
         if denied {
             return Err(TreeFault::Denied);
@@ -135,7 +144,8 @@ impl MemTree {
         ensures answer { Gives denied (tree_of self.now) path.now at (length into.old)
             (result_map_both (λ n. take n into.new) (λ fault. fault) result) }
         ensures room { IfOk result (λ n. (n ≤ length into.old) × (n < 2 ^ 64)) }
-        ensures fault { IfErr result (λ fault. IsTrue (may_answer fault && not (is_failure fault))) }
+        ensures fault { IfErr result
+            (λ fault. IsTrue (may_answer fault && not (is_failure fault))) }
     {
         if denied {
             return Err(TreeFault::Denied);
@@ -151,7 +161,8 @@ impl MemTree {
     pub(crate) fn open(&mut self, alloc: Global, key: u64) -> Result<(), TreeFault>
         ensures answer { Opens (tree_of self.new) key (tree_of self.new ≡ tree_of self.old) result }
         ensures others { KeepsOthers None (Some key) (tree_of self.old) (tree_of self.new) }
-        ensures fault { IfErr result (λ fault. IsTrue (may_answer_opening fault && not (is_failure fault))) }
+        ensures fault { IfErr result
+            (λ fault. IsTrue (may_answer_opening fault && not (is_failure fault))) }
     {
         match open_stage(alloc, &mut self.stages, key) {
             Ok(()) => Ok(()),
@@ -171,7 +182,8 @@ impl MemTree {
         ensures stored { OnOk result ((tree_of self.new).stages key ≡ option_map
             (λ old. old ++ stored is_corrupt bytes.now) ((tree_of self.old).stages key)) }
         ensures others { KeepsOthers None (Some key) (tree_of self.old) (tree_of self.new) }
-        ensures fault { IfErr result (λ fault. IsTrue (may_answer_taking fault && not (is_failure fault))) }
+        ensures fault { IfErr result
+            (λ fault. IsTrue (may_answer_taking fault && not (is_failure fault))) }
     {
         if !has_stage(&self.stages, key) {
             return Err(TreeFault::NotFound);
@@ -193,8 +205,10 @@ impl MemTree {
     ) -> Result<(), TreeFault>
         ensures answer { Places denied (tree_of self.old) key path.now mtime (tree_of self.new)
             (tree_of self.new ≡ tree_of self.old) result }
-        ensures others { KeepsOthers (Some path.now) (Some key) (tree_of self.old) (tree_of self.new) }
-        ensures fault { IfErr result (λ fault. IsTrue (may_answer_taking fault && not (is_failure fault))) }
+        ensures others { KeepsOthers (Some path.now) (Some key) (tree_of self.old)
+            (tree_of self.new) }
+        ensures fault { IfErr result
+            (λ fault. IsTrue (may_answer_taking fault && not (is_failure fault))) }
     {
         if denied {
             return Err(TreeFault::Denied);
@@ -225,7 +239,8 @@ impl MemTree {
         ensures answer { Drops (tree_of self.old) key (tree_of self.new) (tree_of self.new ≡ tree_of self.old)
             result }
         ensures others { KeepsOthers None (Some key) (tree_of self.old) (tree_of self.new) }
-        ensures fault { IfErr result (λ fault. IsTrue (may_answer fault && not (is_failure fault))) }
+        ensures fault { IfErr result
+            (λ fault. IsTrue (may_answer fault && not (is_failure fault))) }
     {
         match take_stage(&mut self.stages, key) {
             Some(_) => Ok(()),
@@ -238,7 +253,8 @@ impl MemTree {
         ensures answer { Makes denied (tree_of self.old) path.now (tree_of self.new)
             (tree_of self.new ≡ tree_of self.old) result }
         ensures others { KeepsOthers (Some path.now) None (tree_of self.old) (tree_of self.new) }
-        ensures fault { IfErr result (λ fault. IsTrue (may_answer_taking fault && not (is_failure fault))) }
+        ensures fault { IfErr result
+            (λ fault. IsTrue (may_answer_taking fault && not (is_failure fault))) }
     {
         if denied {
             return Err(TreeFault::Denied);
@@ -261,7 +277,8 @@ impl MemTree {
         ensures answer { RemovesFile denied (tree_of self.old) path.now (tree_of self.new)
             (tree_of self.new ≡ tree_of self.old) result }
         ensures others { KeepsOthers (Some path.now) None (tree_of self.old) (tree_of self.new) }
-        ensures fault { IfErr result (λ fault. IsTrue (may_answer fault && not (is_failure fault))) }
+        ensures fault { IfErr result
+            (λ fault. IsTrue (may_answer fault && not (is_failure fault))) }
     {
         if denied {
             return Err(TreeFault::Denied);
@@ -282,7 +299,8 @@ impl MemTree {
         ensures answer { RemovesDir denied (tree_of self.old) path.now (tree_of self.new)
             (tree_of self.new ≡ tree_of self.old) result }
         ensures others { KeepsOthers (Some path.now) None (tree_of self.old) (tree_of self.new) }
-        ensures fault { IfErr result (λ fault. IsTrue (may_answer_emptying fault && not (is_failure fault))) }
+        ensures fault { IfErr result
+            (λ fault. IsTrue (may_answer_emptying fault && not (is_failure fault))) }
     {
         let Some((name, folder)) = path.as_slice().split_last() else {
             return Err(TreeFault::Denied);

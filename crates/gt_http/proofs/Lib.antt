@@ -1,6 +1,6 @@
-pub mod BodyLemmas
-pub mod FieldLemmas
-pub mod HeadLemmas
-pub mod MessageLemmas
-pub mod PlaceLemmas
-pub mod ReplyLemmas
+mod BodyLemmas
+mod FieldLemmas
+mod HeadLemmas
+mod MessageLemmas
+mod PlaceLemmas
+mod ReplyLemmas

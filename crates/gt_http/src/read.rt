@@ -54,7 +54,8 @@ fn read_body<S: Source>(
     ensures cause { IsErrOf result HttpFault.ReadFault
         → HasFailed S.words.faults source.old source.new }
     ensures told { IsTrue (S.words.told source.old)
-        → ReadsBody head.now.bytes.items (S.words.left source.old) result (S.words.left source.new) }
+        → ReadsBody head.now.bytes.items (S.words.left source.old) result
+        (S.words.left source.new) }
 {
     let fields = &headers[..head.spans.headers];
     let Some(want) = framing(head.bytes.as_slice(), fields) else {

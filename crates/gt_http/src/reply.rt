@@ -55,7 +55,8 @@ pub fn write_http<K: Sink>(
         → HasFailed K.words.faults sink.old sink.new }
     ensures err { IsErrOf result HttpWriteFault.OutOfMemory → sink.new ≡ sink.old }
     ensures told { IsTrue (K.words.told sink.old)
-        → WritesReply (K.words.taken sink.old) (http_text status body.now) result (K.words.taken sink.new) }
+        → WritesReply (K.words.taken sink.old) (http_text status body.now) result
+        (K.words.taken sink.new) }
 {
     let Ok(head) = reply_head(alloc, status, body.len()) else {
         return Err(HttpWriteFault::OutOfMemory);
@@ -76,7 +77,8 @@ fn write_both<K: Sink>(sink: &mut K, first: &[u8], second: &[u8]) -> Result<(), 
     ensures cause { IsErr result → HasFailed K.words.faults sink.old sink.new }
     ensures fault { IfErr result (λ e. e ≡ HttpWriteFault.SinkFault) }
     ensures told { IsTrue (K.words.told sink.old)
-        → WritesReply (K.words.taken sink.old) (first.now ++ second.now) result (K.words.taken sink.new) }
+        → WritesReply (K.words.taken sink.old) (first.now ++ second.now) result
+        (K.words.taken sink.new) }
 {
     if write_all(sink, first).is_err() {
         return Err(HttpWriteFault::SinkFault);

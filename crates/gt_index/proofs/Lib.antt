@@ -1,4 +1,4 @@
-pub mod FilingLemmas
-pub mod OrderLemmas
-pub mod RiseLemmas
-pub mod RunLemmas
+mod FilingLemmas
+mod OrderLemmas
+mod RiseLemmas
+mod RunLemmas

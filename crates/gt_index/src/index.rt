@@ -23,7 +23,10 @@ impl Model for Index {
 
     ghost coded = { places_code };
 
-    ghost view = { λ i. record { places = i.places.items; spare = vec_capacity i.places - vec_len i.places } };
+    ghost view = { λ i. record {
+      places = i.places.items;
+      spare = vec_capacity i.places - vec_len i.places;
+    } };
 }
 
 impl Index {

@@ -1,24 +1,24 @@
-pub mod Runs
-pub mod Effects
-pub mod Moments
-pub mod Classes
-pub mod TaskKeys
-pub mod OneTask
-pub mod ItemNumbers
-pub mod ItemKeys
-pub mod Parents
-pub mod Apart
-pub mod ApartSteps
-pub mod OneLive
-pub mod RuleKeys
-pub mod OneRule
-pub mod Lives
-pub mod Limits
-pub mod FewItems
-pub mod OfSetup
-pub mod CappedSums
-pub mod StepLemmas
-pub mod StepAnswers
-pub mod AnswerLemmas
-pub mod Soundness
-pub mod Examples
+mod Runs
+mod Effects
+mod Moments
+mod Classes
+mod TaskKeys
+mod OneTask
+mod ItemNumbers
+mod ItemKeys
+mod Parents
+mod Apart
+mod ApartSteps
+mod OneLive
+mod RuleKeys
+mod OneRule
+mod Lives
+mod Limits
+mod FewItems
+mod OfSetup
+mod CappedSums
+mod StepLemmas
+mod StepAnswers
+mod AnswerLemmas
+mod Soundness
+mod Examples

@@ -28,7 +28,8 @@ impl State {
 
     /// The effect of what happens, before it is counted.
     fn apply(&mut self, moment: Moment, what: Happening, prepared: Prepared)
-        requires allowed { IsSome (effect_of (self.old.machine.events + 1) moment what self.old.machine) }
+        requires allowed { IsSome
+            (effect_of (self.old.machine.events + 1) moment what self.old.machine) }
         requires countable { self.old.machine.events < 2 ^ 63 }
         requires prepared { prepared ≡ prepared_for self.old.machine what }
         requires room { HasRoom self.old.room what prepared }
@@ -76,7 +77,8 @@ impl State {
         spec: TransferSpec,
         prepared: Prepared,
     )
-        requires allowed { IsSome (submit_step moment owner submission (OfTransfer spec) self.old.machine) }
+        requires allowed { IsSome
+            (submit_step moment owner submission (OfTransfer spec) self.old.machine) }
         requires prepared { prepared ≡ prepared_task self.old.machine (OfTransfer spec) }
         requires room_for_task { 1 ≤ self.old.room.tasks }
         requires room_for_items { length (new_items prepared) ≤ self.old.room.items }

@@ -35,7 +35,8 @@ impl State {
             ≡ answer_of setup.now self.now.machine who.now.identity command.now now) }
 
         // The reply can be printed, and the event, if there is one, has a step and a record.
-        ensures printable { IfOk result (λ d. IsTrue (is_printable (length setup.now.collections) (said d))) }
+        ensures printable { IfOk result
+            (λ d. IsTrue (is_printable (length setup.now.collections) (said d))) }
         ensures has_step { IfOk result (HasStep setup.now self.now.machine) }
     {
         // What the types say of the identity and of the number of collections.

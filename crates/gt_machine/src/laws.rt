@@ -33,7 +33,8 @@ pub fn runs_have_fronts()
         × (run_from setup middle back ≡ Some last) }
     ensures last { (setup : Setup) (history : List Event) (next : MachineState) (event : Event)
         → run_of setup (history ++ event ∷ []) ≡ Some next
-        → (m : MachineState) × (run_of setup history ≡ Some m) × (step_of setup m event ≡ Some next) }
+        → (m : MachineState) × (run_of setup history ≡ Some m)
+        × (step_of setup m event ≡ Some next) }
 {}
 
 /// The state before any event is one that events lead to, where its namespace is the setup's.

@@ -1,4 +1,4 @@
-pub mod DraftLemmas
-pub mod NameLemmas
-pub mod PathLemmas
-pub mod PieceLemmas
+mod DraftLemmas
+mod NameLemmas
+mod PathLemmas
+mod PieceLemmas

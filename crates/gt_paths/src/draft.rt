@@ -80,7 +80,10 @@ impl Draft {
         ensures names { OnOk result (first_bad (pieces_of text.now) ≡ None) }
         ensures draft { OnOk result ((names : PathValue) → IsDraftOf self.old names
             → IsDraftOf self.new (names ++ pieces_of text.now)) }
-        ensures fault { IfErr result (λ fault. (fault ≡ PathFault.OutOfMemory) ⊎ ((at : ℕ) × (first_bad (pieces_of text.now) ≡ Some at) × (fault ≡ bad_name (at + place)))) }
+        ensures fault { IfErr result
+            (λ fault. (fault ≡ PathFault.OutOfMemory)
+            ⊎ ((at : ℕ) × (first_bad (pieces_of text.now) ≡ Some at)
+            × (fault ≡ bad_name (at + place)))) }
     {
         let mut rest = text;
         let mut at = place;

@@ -6,7 +6,8 @@ pub(crate) fn first_piece(text: &str) -> (&str, &str)
     requires { 0 < length text.now }
     ensures pieces { pieces_of text.now ≡ result.0.now ∷ pieces_of result.1.now }
     ensures whole { length result.0.now + length result.1.now ≤ length text.now }
-    ensures slash { 0 < length result.1.now → length result.0.now + length result.1.now + 1 ≡ length text.now }
+    ensures slash { 0 < length result.1.now
+        → length result.0.now + length result.1.now + 1 ≡ length text.now }
 {
     match text.split_once('/') {
         Some(parts) => parts,

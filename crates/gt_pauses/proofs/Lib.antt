@@ -1,3 +1,3 @@
-pub mod FiledLemmas
-pub mod FirstLemmas
-pub mod NumberLemmas
+mod FiledLemmas
+mod FirstLemmas
+mod NumberLemmas

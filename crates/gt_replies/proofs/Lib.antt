@@ -1,4 +1,4 @@
-pub mod DocumentLemmas
-pub mod OrderLemmas
-pub mod SpelledLemmas
-pub mod TableLemmas
+mod DocumentLemmas
+mod OrderLemmas
+mod SpelledLemmas
+mod TableLemmas

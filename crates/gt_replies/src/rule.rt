@@ -83,7 +83,8 @@ pub(crate) fn access_list(
 ) -> Result<Value, AllocError>
     requires rows { IsTrue (list_all is_printable_access rows.now) }
     requires collection { collection < length setup.now.collections }
-    ensures { IfOk result (λ value. view value ≡ access_list_document setup.now rows.now collection) }
+    ensures { IfOk result
+        (λ value. view value ≡ access_list_document setup.now rows.now collection) }
 {
     let rows = rows_value(alloc, setup, rows)?;
     let endpoint = id_value(alloc, &setup.id_of(collection))?;

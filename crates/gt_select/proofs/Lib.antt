@@ -1,5 +1,5 @@
-pub mod CharLemmas
-pub mod ClassLemmas
-pub mod FilterLemmas
-pub mod MatchLemmas
-pub mod PassedLemmas
+mod CharLemmas
+mod ClassLemmas
+mod FilterLemmas
+mod MatchLemmas
+mod PassedLemmas

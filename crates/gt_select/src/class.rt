@@ -7,7 +7,8 @@ use crate::piece::split_first;
 /// Whether the text begins with `!`, and the text without that.
 pub(crate) fn without_negation(text: &str) -> (bool, &str)
     ensures negated { result.0 ≡ is_negated (chars text.now) }
-    ensures members { chars result.1.now ≡ (if is_negated (chars text.now) then drop 1 (chars text.now) else chars text.now) }
+    ensures members { chars result.1.now
+        ≡ (if is_negated (chars text.now) then drop 1 (chars text.now) else chars text.now) }
 {
     match split_first(text) {
         Some(('!', rest)) => (true, rest),
@@ -17,8 +18,10 @@ pub(crate) fn without_negation(text: &str) -> (bool, &str)
 
 /// The first member of a class that begins there, its further members, and what stands behind its end.
 pub(crate) fn class_at(text: &str) -> Option<(char, &str, &str)>
-    ensures members { MatchOption result (members_of (chars text.now) ≡ None) (λ x. members_of (chars text.now) ≡ Some (x.0 ∷ chars x.1.now)) }
-    ensures behind { IfSome result (λ x. chars x.2.now ≡ drop (length (chars x.1.now) + 2) (chars text.now)) }
+    ensures members { MatchOption result (members_of (chars text.now) ≡ None)
+        (λ x. members_of (chars text.now) ≡ Some (x.0 ∷ chars x.1.now)) }
+    ensures behind { IfSome result
+        (λ x. chars x.2.now ≡ drop (length (chars x.1.now) + 2) (chars text.now)) }
 {
     let (first, rest) = split_first(text)?;
     match split_at_end(rest) {
@@ -29,7 +32,9 @@ pub(crate) fn class_at(text: &str) -> Option<(char, &str, &str)>
 
 /// What stands before the first `]`, and what stands behind it.
 fn split_at_end(text: &str) -> Option<(&str, &str)>
-    ensures { MatchOption result (position (λ x. x == 93) (chars text.now) ≡ None) (λ x. (position (λ y. y == 93) (chars text.now) ≡ Some (length (chars x.0.now))) × (chars text.now ≡ chars x.0.now ++ 93 ∷ chars x.1.now)) }
+    ensures { MatchOption result (position (λ x. x == 93) (chars text.now) ≡ None)
+        (λ x. (position (λ y. y == 93) (chars text.now) ≡ Some (length (chars x.0.now)))
+        × (chars text.now ≡ chars x.0.now ++ 93 ∷ chars x.1.now)) }
 {
     text.split_once(']')
 }
@@ -62,7 +67,8 @@ fn is_between(low: char, character: char, high: char) -> bool
 
 /// The last character of the range that begins with `first`, and the members behind it.
 fn range_end(first: char, rest: &str) -> (char, &str)
-    ensures range { ranges (first ∷ chars rest.now) ≡ (first, result.0) ∷ ranges (chars result.1.now) }
+    ensures range { ranges (first ∷ chars rest.now)
+        ≡ (first, result.0) ∷ ranges (chars result.1.now) }
     ensures shorter { length result.1.now ≤ length rest.now }
 {
     let Some(('-', after)) = split_first(rest) else {

@@ -10,7 +10,8 @@ use gt_types::{FilterRule, Kind};
 /// taken; where there is none, it is.
 pub fn first_rule(rules: &[FilterRule], name: &Name, kind: Kind) -> Option<usize>
     ensures first { result ≡ first_rule_of rules.now name.now kind }
-    ensures chosen { is_chosen rules.now name.now kind ≡ option_map_or (λ rule. rule.include) (option_and_then (slice_get rules.now) result) true }
+    ensures chosen { is_chosen rules.now name.now kind
+        ≡ option_map_or (λ rule. rule.include) (option_and_then (slice_get rules.now) result) true }
 {
     rules.iter().position(|rule| is_about(rule, name, kind))
 }

@@ -1,8 +1,8 @@
-pub mod ApartLemmas
-pub mod CheckLemmas
-pub mod IndexLemmas
-pub mod KeyLemmas
-pub mod OwnerLemmas
-pub mod PlaceLemmas
-pub mod StepLemmas
-pub mod TableLemmas
+mod ApartLemmas
+mod CheckLemmas
+mod IndexLemmas
+mod KeyLemmas
+mod OwnerLemmas
+mod PlaceLemmas
+mod StepLemmas
+mod TableLemmas

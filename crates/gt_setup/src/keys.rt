@@ -28,8 +28,10 @@ pub(crate) fn required<T: Drop>(
     value: Option<&Value>,
     meant: Option<T>,
 ) -> Result<T, SetupFault>
-    ensures ok { IfOk result (λ x. judged key.now row (option_map (λ v. view v.now) value.entry) meant ≡ Ok x) }
-    ensures fault { FaultsAs SetupFault.OutOfMemory (judged key.now row (option_map (λ v. view v.now) value.entry) meant) result }
+    ensures ok { IfOk result
+        (λ x. judged key.now row (option_map (λ v. view v.now) value.entry) meant ≡ Ok x) }
+    ensures fault { FaultsAs SetupFault.OutOfMemory
+        (judged key.now row (option_map (λ v. view v.now) value.entry) meant) result }
 {
     if value.is_none() {
         return Err(SetupFault::missing(alloc, key, row));
@@ -47,9 +49,12 @@ pub(crate) fn rows_of<'a>(
     table: &'a Table,
     key: &str,
 ) -> Result<&'a [Value], SetupFault>
-    ensures ok { IfOk result (λ rows. required key.now 0 spec.rows_in (get_member key.now (table_view table.now)) ≡ Ok (items_view rows.now)) }
+    ensures ok { IfOk result
+        (λ rows. required key.now 0 spec.rows_in (get_member key.now (table_view table.now))
+        ≡ Ok (items_view rows.now)) }
     ensures few { IfOk result (λ rows. length rows.now ≤ 1048576) }
-    ensures fault { FaultsAs SetupFault.OutOfMemory (required key.now 0 spec.rows_in (get_member key.now (table_view table.now))) result }
+    ensures fault { FaultsAs SetupFault.OutOfMemory
+        (required key.now 0 spec.rows_in (get_member key.now (table_view table.now))) result }
 {
     let value = member(table, key);
     required(alloc, key, 0, value, rows_in(value))

@@ -24,7 +24,8 @@ pub(crate) fn check_owners(setup: &Setup, collections: &[Collection]) -> Result<
 
 // The first owner that is no identity.
 fn unknown_owner(setup: &Setup, collections: &[Collection]) -> Option<Id>
-    ensures { result ≡ find (λ owner. not (has_identity setup.now owner)) (map (λ c. c.owner) collections.now) }
+    ensures { result
+        ≡ find (λ owner. not (has_identity setup.now owner)) (map (λ c. c.owner) collections.now) }
 {
     for collection in collections {
         if setup.who(&collection.owner).is_none() {

@@ -20,9 +20,11 @@ pub(crate) fn identity_places(
     alloc: Global,
     identities: &[Identity],
 ) -> Result<BTreeMap<Id, usize>, SetupFault>
-    ensures apart { OnOk result (repeated_among [] (map (λ i. i.who.identity) identities.now) ≡ None) }
+    ensures apart { OnOk result
+        (repeated_among [] (map (λ i. i.who.identity) identities.now) ≡ None) }
     ensures index { IfOk result (λ places. IsIndexOf is_identity identities.now places) }
-    ensures fault { FaultsAs OutOfMemory (none_or (repeated_among [] (map (λ i. i.who.identity) identities.now)) Twice) result }
+    ensures fault { FaultsAs OutOfMemory
+        (none_or (repeated_among [] (map (λ i. i.who.identity) identities.now)) Twice) result }
 {
     let ids = ids_of_identities(alloc, identities)?;
     places_of(alloc, &ids)
@@ -36,7 +38,8 @@ pub(crate) fn collection_places(
 ) -> Result<BTreeMap<Id, usize>, SetupFault>
     ensures apart { OnOk result (repeated_among [] (map (λ c. c.id) collections.now) ≡ None) }
     ensures index { IfOk result (λ places. IsIndexOf is_collection collections.now places) }
-    ensures fault { FaultsAs OutOfMemory (none_or (repeated_among [] (map (λ c. c.id) collections.now)) Twice) result }
+    ensures fault { FaultsAs OutOfMemory
+        (none_or (repeated_among [] (map (λ c. c.id) collections.now)) Twice) result }
 {
     let ids = ids_of_collections(alloc, collections)?;
     places_of(alloc, &ids)

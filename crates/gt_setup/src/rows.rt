@@ -26,7 +26,8 @@ pub(crate) fn identities_of(
 ) -> Result<(Vec<Identity>, BTreeMap<Digest, usize>), SetupFault>
     ensures ok { IfOk result (λ r. spec.identities_of (table_view table.now) ≡ Ok r.0.items) }
     ensures index { IfOk result (λ r. IsIndexOf lists r.0.items r.1) }
-    ensures fault { FaultsAs SetupFault.OutOfMemory (spec.identities_of (table_view table.now)) result }
+    ensures fault { FaultsAs SetupFault.OutOfMemory
+        (spec.identities_of (table_view table.now)) result }
 {
     match rows_of(alloc, table, "identity") {
         Ok(rows) => identities_from(alloc, rows),
@@ -42,7 +43,8 @@ fn identities_from(
     requires { length rows.now ≤ 1048576 }
     ensures ok { IfOk result (λ r. spec.identities_from 0 [] (items_view rows.now) ≡ Ok r.0.items) }
     ensures index { IfOk result (λ r. IsIndexOf lists r.0.items r.1) }
-    ensures fault { FaultsAs SetupFault.OutOfMemory (spec.identities_from 0 [] (items_view rows.now)) result }
+    ensures fault { FaultsAs SetupFault.OutOfMemory
+        (spec.identities_from 0 [] (items_view rows.now)) result }
 {
     let mut identities = Vec::new(alloc);
     let mut taken = BTreeMap::new(alloc);
@@ -61,9 +63,11 @@ fn identity_at(
     number: u32,
     taken: &mut BTreeMap<Digest, usize>,
 ) -> Result<Identity, SetupFault>
-    ensures ok { IfOk result (λ identity. spec.identity_at number (keys taken.old) (view row.now) ≡ Ok identity) }
+    ensures ok { IfOk result
+        (λ identity. spec.identity_at number (keys taken.old) (view row.now) ≡ Ok identity) }
     ensures taken { IfOk result (λ identity. Takes number identity.tokens taken.old taken.new) }
-    ensures fault { FaultsAs SetupFault.OutOfMemory (spec.identity_at number (keys taken.old) (view row.now)) result }
+    ensures fault { FaultsAs SetupFault.OutOfMemory
+        (spec.identity_at number (keys taken.old) (view row.now)) result }
 {
     let value = row.get("id");
     let identity = required(alloc, "identity.id", number, value, id_in(value))?;
@@ -98,7 +102,8 @@ fn identity_at(
 pub(crate) fn collections_of(alloc: Global, table: &Table) -> Result<Vec<Collection>, SetupFault>
     ensures ok { IfOk result (λ v. spec.collections_of (table_view table.now) ≡ Ok v.items) }
     ensures few { IfOk result (λ v. length v.items < 2 ^ 32) }
-    ensures fault { FaultsAs SetupFault.OutOfMemory (spec.collections_of (table_view table.now)) result }
+    ensures fault { FaultsAs SetupFault.OutOfMemory
+        (spec.collections_of (table_view table.now)) result }
 {
     match rows_of(alloc, table, "collection") {
         Ok(rows) => collections_from(alloc, rows),
@@ -111,7 +116,8 @@ fn collections_from(alloc: Global, rows: &[Value]) -> Result<Vec<Collection>, Se
     requires { length rows.now ≤ 1048576 }
     ensures ok { IfOk result (λ v. spec.collections_from 0 (items_view rows.now) ≡ Ok v.items) }
     ensures few { IfOk result (λ v. length v.items < 2 ^ 32) }
-    ensures fault { FaultsAs SetupFault.OutOfMemory (spec.collections_from 0 (items_view rows.now)) result }
+    ensures fault { FaultsAs SetupFault.OutOfMemory
+        (spec.collections_from 0 (items_view rows.now)) result }
 {
     let mut collections = Vec::new(alloc);
     for number in 0..rows.len() {
@@ -124,8 +130,10 @@ fn collections_from(alloc: Global, rows: &[Value]) -> Result<Vec<Collection>, Se
 // The collection of a row.
 #[tactic(auto, unfolding(crate::specs::Grammar::collection_at))]
 fn collection_at(alloc: Global, row: &Value, number: u32) -> Result<Collection, SetupFault>
-    ensures ok { IfOk result (λ collection. spec.collection_at number (view row.now) ≡ Ok collection) }
-    ensures fault { FaultsAs SetupFault.OutOfMemory (spec.collection_at number (view row.now)) result }
+    ensures ok { IfOk result
+        (λ collection. spec.collection_at number (view row.now) ≡ Ok collection) }
+    ensures fault { FaultsAs SetupFault.OutOfMemory
+        (spec.collection_at number (view row.now)) result }
 {
     let value = row.get("id");
     let id = required(alloc, "collection.id", number, value, id_in(value))?;

@@ -41,9 +41,14 @@ impl Model for Setup {
 
     ghost Value = { spec.Setup };
 
-    ghost view = { λ s. record { namespace = s.namespace; identities = s.identities.items; collections = s.collections.items } };
+    ghost view = { λ s. record {
+      namespace = s.namespace;
+      identities = s.identities.items;
+      collections = s.collections.items;
+    } };
 
-    ghost invariant = { λ s. (length s.collections.items < 2 ^ 32) × IsIndexed s.identities.items s.collections.items s.by_id s.by_digest s.by_collection };
+    ghost invariant = { λ s. (length s.collections.items < 2 ^ 32)
+        × IsIndexed s.identities.items s.collections.items s.by_id s.by_digest s.by_collection };
 }
 
 impl Setup {
@@ -57,7 +62,8 @@ impl Setup {
         ensures fault { FaultsAs SetupFault.OutOfMemory (setup_of bytes.now) result }
 
         // What is too long is told as such, whatever memory there is.
-        ensures memory { IfErr result (λ f. f ≡ SetupFault.OutOfMemory → length bytes.now ≤ 1048576) }
+        ensures memory { IfErr result
+            (λ f. f ≡ SetupFault.OutOfMemory → length bytes.now ≤ 1048576) }
     {
         if bytes.len() > 1_048_576 {
             return Err(SetupFault::TooLong {
@@ -187,7 +193,8 @@ impl Setup {
 fn parts_of(alloc: Global, table: &Table) -> Result<Parts, SetupFault>
     ensures value { IfOk result (λ parts. parts_of (table_view table.now) ≡ Ok (setup_from parts)) }
     ensures few { IfOk result (λ parts. length parts.collections.items < 2 ^ 32) }
-    ensures digests { IfOk result (λ parts. IsIndexOf lists parts.identities.items parts.by_digest) }
+    ensures digests { IfOk result
+        (λ parts. IsIndexOf lists parts.identities.items parts.by_digest) }
     ensures fault { FaultsAs SetupFault.OutOfMemory (parts_of (table_view table.now)) result }
 {
     let value = member(table, "namespace");

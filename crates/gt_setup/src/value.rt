@@ -19,7 +19,8 @@ use toml::Value;
 
 /// A whole number of 32 bits.
 pub(crate) fn namespace_in(value: Option<&Value>) -> Option<u32>
-    ensures { result ≡ option_and_then spec.namespace_in (option_map (λ v. view v.now) value.entry) }
+    ensures { result
+        ≡ option_and_then spec.namespace_in (option_map (λ v. view v.now) value.entry) }
 {
     let number = value?.as_integer()?;
     if 0 <= number && number <= 4_294_967_295 {
@@ -38,7 +39,8 @@ pub(crate) fn id_in(value: Option<&Value>) -> Option<Id>
 
 /// A text of 1 to 255 bytes.
 pub(crate) fn name_in(alloc: Global, value: Option<&Value>) -> Result<Option<Text>, AllocError>
-    ensures { IfOk result (λ name. name ≡ option_and_then spec.name_in (option_map (λ v. view v.now) value.entry)) }
+    ensures { IfOk result
+        (λ name. name ≡ option_and_then spec.name_in (option_map (λ v. view v.now) value.entry)) }
 {
     let Some(text) = text_in(value) else {
         return Ok(None);
@@ -51,7 +53,8 @@ pub(crate) fn name_in(alloc: Global, value: Option<&Value>) -> Result<Option<Tex
 
 /// The text of a path, read with the root as home.
 pub(crate) fn home_in(alloc: Global, value: Option<&Value>) -> Result<Option<Path>, AllocError>
-    ensures { IfOk result (λ home. home ≡ option_and_then spec.home_in (option_map (λ v. view v.now) value.entry)) }
+    ensures { IfOk result
+        (λ home. home ≡ option_and_then spec.home_in (option_map (λ v. view v.now) value.entry)) }
 {
     let Some(text) = text_in(value) else {
         return Ok(None);
@@ -65,14 +68,16 @@ pub(crate) fn home_in(alloc: Global, value: Option<&Value>) -> Result<Option<Pat
 
 // The text that a value is.
 fn text_in(value: Option<&Value>) -> Option<&str>
-    ensures { option_copied result ≡ option_and_then as_str (option_map (λ v. view v.now) value.entry) }
+    ensures { option_copied result
+        ≡ option_and_then as_str (option_map (λ v. view v.now) value.entry) }
 {
     value?.as_str()
 }
 
 // The array that a value is.
 fn array_in(value: Option<&Value>) -> Option<&[Value]>
-    ensures { option_map (λ items. items_view items.now) result ≡ option_and_then as_array (option_map (λ v. view v.now) value.entry) }
+    ensures { option_map (λ items. items_view items.now) result
+        ≡ option_and_then as_array (option_map (λ v. view v.now) value.entry) }
 {
     Some(value?.as_array()?.as_slice())
 }
@@ -82,7 +87,9 @@ pub(crate) fn groups_in(
     alloc: Global,
     value: Option<&Value>,
 ) -> Result<Option<Sequence<Id>>, AllocError>
-    ensures { IfOk result (λ groups. groups ≡ option_and_then spec.groups_in (option_map (λ v. view v.now) value.entry)) }
+    ensures { IfOk result
+        (λ groups. groups
+        ≡ option_and_then spec.groups_in (option_map (λ v. view v.now) value.entry)) }
 {
     match array_in(value) {
         Some(items) => ids_in(alloc, items),
@@ -111,8 +118,12 @@ pub(crate) fn tokens_in(
     row: usize,
     taken: &mut BTreeMap<Digest, usize>,
 ) -> Result<Option<Sequence<Digest>>, AllocError>
-    ensures value { IfOk result (λ tokens. tokens ≡ option_and_then (spec.tokens_in (keys taken.old)) (option_map (λ v. view v.now) value.entry)) }
-    ensures taken { IfOk result (λ tokens. IfSome tokens (λ digests. Takes row digests taken.old taken.new)) }
+    ensures value { IfOk result
+        (λ tokens. tokens
+        ≡ option_and_then (spec.tokens_in (keys taken.old))
+        (option_map (λ v. view v.now) value.entry)) }
+    ensures taken { IfOk result
+        (λ tokens. IfSome tokens (λ digests. Takes row digests taken.old taken.new)) }
 {
     match array_in(value) {
         Some(items) => digests_in(alloc, items, row, taken),
@@ -127,8 +138,10 @@ fn digests_in(
     row: usize,
     taken: &mut BTreeMap<Digest, usize>,
 ) -> Result<Option<Sequence<Digest>>, AllocError>
-    ensures value { IfOk result (λ tokens. tokens ≡ spec.digests_in (keys taken.old) (items_view items.now)) }
-    ensures taken { IfOk result (λ tokens. IfSome tokens (λ digests. Takes row digests taken.old taken.new)) }
+    ensures value { IfOk result
+        (λ tokens. tokens ≡ spec.digests_in (keys taken.old) (items_view items.now)) }
+    ensures taken { IfOk result
+        (λ tokens. IfSome tokens (λ digests. Takes row digests taken.old taken.new)) }
 {
     let mut digests = Vec::new(alloc);
     for at in 0..items.len() {
@@ -189,7 +202,8 @@ fn has_capitals(text: &[u8]) -> bool
 /// The rows of an array of 1 to 1,048,576 tables. A file has no more bytes than that.
 #[tactic(auto, using(crate::proofs::TableLemmas::count_view))]
 pub(crate) fn rows_in(value: Option<&Value>) -> Option<&[Value]>
-    ensures value { option_map (λ rows. items_view rows.now) result ≡ option_and_then spec.rows_in (option_map (λ v. view v.now) value.entry) }
+    ensures value { option_map (λ rows. items_view rows.now) result
+        ≡ option_and_then spec.rows_in (option_map (λ v. view v.now) value.entry) }
     ensures few { IfSome result (λ rows. length rows.now ≤ 1048576) }
 {
     let items = array_in(value)?;

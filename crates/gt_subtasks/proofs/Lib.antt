@@ -1,6 +1,6 @@
-pub mod Classes
-pub mod Counting
-pub mod IndexLemmas
-pub mod KeptLemmas
-pub mod NumberLemmas
-pub mod TallyLemmas
+mod Classes
+mod Counting
+mod IndexLemmas
+mod KeptLemmas
+mod NumberLemmas
+mod TallyLemmas

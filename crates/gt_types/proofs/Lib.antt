@@ -1,2 +1,2 @@
-pub mod KeptLemmas
-pub mod TextLemmas
+mod KeptLemmas
+mod TextLemmas

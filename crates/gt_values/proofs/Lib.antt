@@ -1,7 +1,7 @@
-pub mod DateLemmas
-pub mod DecimalLemmas
-pub mod FormLemmas
-pub mod IdLemmas
-pub mod MadeLemmas
-pub mod PrintLemmas
-pub mod ProfileLemmas
+mod DateLemmas
+mod DecimalLemmas
+mod FormLemmas
+mod IdLemmas
+mod MadeLemmas
+mod PrintLemmas
+mod ProfileLemmas

@@ -48,7 +48,10 @@ fn day_number(year: u16, month: u8, day: u8) -> Option<i32>
     requires year_in { year < 10_000 }
     requires month_in { month < 100 }
     requires day_in { day < 100 }
-    ensures value { result ≡ (if spec.is_date year month day then Some (days_from_civil (pos year) month day) else None) }
+    ensures value { result
+        ≡ (if spec.is_date year month day
+        then Some (days_from_civil (pos year) month day)
+        else None) }
     ensures bound { IfSome result IsEpochDay }
 {
     match Date::new(year as i16, month as i8, day as i8) {

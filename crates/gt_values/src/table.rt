@@ -24,7 +24,10 @@ impl<T> Model for Table<T> {
 
     ghost coded = { rows_code T.code };
 
-    ghost view = { λ t. record { rows = t.items.items; spare = vec_capacity t.items - vec_len t.items } };
+    ghost view = { λ t. record {
+      rows = t.items.items;
+      spare = vec_capacity t.items - vec_len t.items;
+    } };
 }
 
 impl<T> Table<T> {
