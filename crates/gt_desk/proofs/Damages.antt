@@ -11,6 +11,7 @@ use Rattle.gt_journal.specs.Reading.{lists}
 use Rattle.gt_machine.specs.MachineState.{MachineState}
 use Rattle.gt_machine.specs.Run.{run_of}
 use Rattle.gt_machine.specs.Step.{step_of}
+use Rattle.gt_records.specs.ReadingEvents.{event_of}
 use Rattle.gt_records.specs.RecordText.{record_text}
 use Rattle.gt_setup.specs.Setup.{Setup}
 use Rattle.gt_types.specs.declared.event.Event.{Event}
@@ -23,13 +24,13 @@ many_lists vs = length-map {A = _} {B = List ℕ} vs (λ v. v.items)
 
 -- one body more
 pub replays_more : (setup : Setup) (bodies : List (List ℕ)) (i : ℕ) (body : List ℕ) (m last : MachineState) (event : Event) → Replays setup (take i bodies) m → i < length bodies
-    → get_or bodies i [] ≡ body → IsTextOf event body → step_of setup m event ≡ Some last → Replays setup (take (i + 1) bodies) last
-replays_more setup bodies i body m last event so_far inside here is step =
+    → get_or bodies i [] ≡ body → IsTextOf event body → event_of (record_text event) ≡ Some event → step_of setup m event ≡ Some last → Replays setup (take (i + 1) bodies) last
+replays_more setup bodies i body m last event so_far inside here is again step =
     let more : take (i + 1) bodies ≡ take i bodies ++ record_text event ∷ [] =
     take_more bodies i [] inside ∙ ap (λ (b : List ℕ). take i bodies ++ b ∷ []) (here ∙ sym is.text) in
     subst (λ bs. Replays setup bs last) (sym more) (record {
-      texts = texts_more event is.recordable (take i bodies) so_far.texts;
-      runs = ap (λ (events : List Event). run_of setup events) (events_more event is.recordable (take i bodies))
+      texts = texts_more event again (take i bodies) so_far.texts;
+      runs = ap (λ (events : List Event). run_of setup events) (events_more event again (take i bodies))
           ∙ run_more setup (events_of (take i bodies)) event m last so_far.runs step;
     })
 

@@ -1,5 +1,5 @@
 -- Bodies and the events whose texts they are, and runs of one event more.
-use Rattle.std.proofs.Common.{◌≡◌, ℕ, List, [], ◌∷◌, ◌++◌, Option, None, Some, IsSome, map, refl, sym, ap, subst, ◌∙◌, append_assoc, true, rules}
+use Rattle.std.proofs.Common.{◌≡◌, ℕ, List, [], ◌∷◌, ◌++◌, Option, None, Some, IsSome, map, refl, sym, ap, subst, ◌∙◌, append_assoc, rules}
 use Rattle.std.specs.Prelude.{option_and_then}
 use Rattle.std.proofs.lemmas.List.{map-append}
 use Rattle.gt_desk.specs.Desk.{events_of, listed}
@@ -8,9 +8,7 @@ use Rattle.gt_machine.specs.Run.{run_from, run_of}
 use Rattle.gt_machine.specs.Step.{step_of}
 use Rattle.gt_records.specs.ReadingEvents.{event_of}
 use Rattle.gt_records.specs.RecordText.{record_text}
-use Rattle.gt_records.proofs.EventLaws.{event_given}
 use Rattle.gt_setup.specs.Setup.{Setup}
-use Rattle.gt_types.specs.Event.{is_recordable, recordable_collections}
 use Rattle.gt_types.specs.declared.event.Event.{Event}
 
 -- one body more
@@ -20,9 +18,10 @@ more_events (first ∷ bodies) body =
     ap (λ (events : List Event). listed (event_of first) ++ events) (more_events bodies body)
     ∙ sym (append_assoc (listed (event_of first)) (events_of bodies) (listed (event_of body)))
 
-module _ (event : Event) (recordable : is_recordable recordable_collections event ≡ true) where
+-- where the text of an event reads back as that event
+module _ (event : Event) (again : event_of (record_text event) ≡ Some event) where
   pub events_more : (bodies : List (List ℕ)) → events_of (bodies ++ record_text event ∷ []) ≡ events_of bodies ++ event ∷ []
-  events_more bodies = more_events bodies (record_text event) ∙ ap (λ (o : Option Event). events_of bodies ++ listed o) (event_given event recordable)
+  events_more bodies = more_events bodies (record_text event) ∙ ap (λ (o : Option Event). events_of bodies ++ listed o) again
 
   pub texts_more : (bodies : List (List ℕ)) → bodies ≡ map record_text (events_of bodies)
       → bodies ++ record_text event ∷ [] ≡ map record_text (events_of (bodies ++ record_text event ∷ []))

@@ -21,9 +21,9 @@ use Rattle.gt_machine.specs.Sound.{IsSound}
 use Rattle.gt_machine.specs.Step.{step_of}
 use Rattle.gt_machine.specs.declared.change.Change.{Change}
 use Rattle.gt_machine.specs.declared.decision.Decision.TheVariants.{Do}
+use Rattle.gt_records.specs.ReadingEvents.{event_of}
 use Rattle.gt_records.specs.RecordText.{record_text}
 use Rattle.gt_setup.specs.Setup.{Setup}
-use Rattle.gt_types.specs.Event.{is_recordable, recordable_collections}
 use Rattle.gt_types.specs.declared.event.Event.{Event}
 
 -- a step counts its event
@@ -67,9 +67,9 @@ module _ {D : Type 0} (words : DiskWords D) (setup : Setup) (state : Held) (doub
   before t = sym same.disk.honest ∙ t
 
   -- an event was recorded, that of the doubt or another one
-  module _ (event : Event) (recordable : is_recordable recordable_collections event ≡ true) (added : IsAdded words old (record_text event) new) (next : Held) (step : step_of setup state.machine event ≡ Some next.machine) where
+  module _ (event : Event) (again : event_of (record_text event) ≡ Some event) (added : IsAdded words old (record_text event) new) (next : Held) (step : step_of setup state.machine event ≡ Some next.machine) where
     pub added_history : IsTrue (words.honest old.disk) → events_of new.bodies ≡ events_of old.bodies ++ event ∷ []
-    added_history t = ap events_of (added.bodies t) ∙ events_more event recordable old.bodies
+    added_history t = ap events_of (added.bodies t) ∙ events_more event again old.bodies
 
     pub added_recorded : (left : Option Change) → left ≡ None → HasRecorded words (Do event (tt {0})) (desk_of setup state doubt old) (Ok (tt {0})) (desk_of setup next left new)
     added_recorded left none = record {
@@ -85,14 +85,11 @@ module _ {D : Type 0} (words : DiskWords D) (setup : Setup) (state : Held) (doub
       few = omega (arith, added.place, was.few, more);
       pending = tt;
       text = added.clear;
-      told = λ t. agrees_more words setup state.machine old new (was.told (before t)) (rests.images t) event next.machine recordable step (added.bodies (before t));
+      told = λ t. agrees_more words setup state.machine old new (was.told (before t)) (rests.images t) event next.machine again step (added.bodies (before t));
     })
 
   -- the event in doubt was kept
-  module _ (change : Change) (is : doubt ≡ Some change) (settles : Settles words old Kept new) where
-    kept_pending : IsPending setup state change
-    kept_pending = subst (λ o. IfSome o (IsPending setup state)) is was.pending
-
+  module _ (change : Change) (is : doubt ≡ Some change) (again : event_of (record_text change.event) ≡ Some change.event) (settles : Settles words old Kept new) where
     pub kept_added : IsAdded words old (record_text change.event) new
     kept_added =
         let (body, some, added, gate) = settles in
@@ -104,12 +101,12 @@ module _ {D : Type 0} (words : DiskWords D) (setup : Setup) (state : Held) (doub
       kept = change.event ∷ [];
       settles = one_kept_of (event_in doubt) change.event (ap event_in is);
       runs = run_one setup change.event state.machine next.machine step;
-      history = added_history change.event kept_pending.recordable kept_added next step;
+      history = added_history change.event again kept_added next step;
       clear = ap event_in none;
     }
 
     pub kept_consistent : (next : Held) → step_of setup state.machine change.event ≡ Some next.machine → next.machine.events ≡ state.machine.events + 1 → (left : Option Change) → left ≡ None → IsConsistent words setup next left new
-    kept_consistent next step more left none = added_consistent change.event kept_pending.recordable kept_added next step more left none
+    kept_consistent next step more left none = added_consistent change.event again kept_added next step more left none
 
   -- nothing is in doubt any longer, and nothing was added
   module _ (stays : StaysWith words old None new) (left : Option Change) (none : left ≡ None) where

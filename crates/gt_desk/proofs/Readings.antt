@@ -11,7 +11,6 @@ use Rattle.gt_machine.specs.Run.{run_from, run_of}
 use Rattle.gt_machine.specs.Step.{step_of}
 use Rattle.gt_records.specs.ReadingEvents.{event_of}
 use Rattle.gt_records.specs.RecordText.{record_text}
-use Rattle.gt_records.proofs.EventLaws.{event_given}
 use Rattle.gt_setup.specs.Setup.{Setup}
 use Rattle.gt_types.specs.Event.{has_collections, is_recordable, is_recordable_happening, recordable_collections}
 use Rattle.gt_types.specs.declared.event.Event.{Event}
@@ -46,7 +45,8 @@ step_there : (setup : Setup) (events : List Event) (o : Option MachineState) →
 step_there setup events None runs = absurd (cc)
 step_there setup events (Some n) runs = (n, refl, runs)
 
-module _ (setup : Setup) (few : length setup.collections < 2 ^ 32) (law : (s : Setup) (m next : MachineState) (event : Event) → step_of s m event ≡ Some next → is_recordable (length s.collections) event ≡ true) where
+module _ (setup : Setup) (few : length setup.collections < 2 ^ 32) (law : (s : Setup) (m next : MachineState) (event : Event) → step_of s m event ≡ Some next → is_recordable (length s.collections) event ≡ true)
+    (again : (event : Event) → is_recordable recordable_collections event ≡ true → event_of (record_text event) ≡ Some event) where
   recordable_step : (m next : MachineState) (event : Event) → step_of setup m event ≡ Some next → is_recordable recordable_collections event ≡ true
   recordable_step m next event step = recordable_widely (length setup.collections) event few (law setup m next event step)
 
@@ -54,13 +54,13 @@ module _ (setup : Setup) (few : length setup.collections < 2 ^ 32) (law : (s : S
   read_back [] m runs = refl
   read_back (event ∷ events) m runs =
       let next = step_there setup events (step_of setup m event) runs in
-      ap (λ (o : Option Event). listed o ++ events_of (map record_text events)) (event_given event (recordable_step m next.0 event next.1))
+      ap (λ (o : Option Event). listed o ++ events_of (map record_text events)) (again event (recordable_step m next.0 event next.1))
       ∙ ap (λ (es : List Event). event ∷ es) (read_back events next.0 next.2)
 
   -- texts of two events that have steps are of one
   same_event : (m n : MachineState) (a b : Event) (na nb : MachineState) → step_of setup m a ≡ Some na → step_of setup n b ≡ Some nb → record_text a ≡ record_text b → a ≡ b
   same_event m n a b na nb step_a step_b same =
-      let both : Some a ≡ Some b = sym (event_given a (recordable_step m na a step_a)) ∙ ap event_of same ∙ event_given b (recordable_step n nb b step_b) in
+      let both : Some a ≡ Some b = sym (again a (recordable_step m na a step_a)) ∙ ap event_of same ∙ again b (recordable_step n nb b step_b) in
       cc
 
   -- the text of an event that has a step isn't bad
@@ -69,7 +69,7 @@ module _ (setup : Setup) (few : length setup.collections < 2 ^ 32) (law : (s : S
       let recordable = recordable_step m next event step in
       ⊎_elim (λ no. no event (record { recordable = recordable; text = text }))
       (λ stuck.
-      let both : Some event ≡ Some stuck.0 = sym (event_given event recordable) ∙ ap event_of (text ∙ sym stuck.1.text) ∙ event_given stuck.0 stuck.1.recordable in
+      let both : Some event ≡ Some stuck.0 = sym (again event recordable) ∙ ap event_of (text ∙ sym stuck.1.text) ∙ again stuck.0 stuck.1.recordable in
       let same : event ≡ stuck.0 = cc in
       let steps : Some next ≡ None = sym step ∙ ap (λ (e : Event). step_of setup m e) same ∙ stuck.2 in
       absurd (cc)) bad

@@ -1,5 +1,5 @@
 -- From what the journal keeps to what the desk promises.
-use Rattle.std.proofs.Common.{◌≡◌, ℕ, ◌⊎◌, inl, inr, ⊎_elim, List, [], ◌∷◌, ◌++◌, Option, None, Some, IsSome, map, append-nil, refl, sym, ap, subst, ◌∙◌, true}
+use Rattle.std.proofs.Common.{◌≡◌, ℕ, ◌⊎◌, inl, inr, ⊎_elim, List, [], ◌∷◌, ◌++◌, Option, None, Some, IsSome, map, append-nil, refl, sym, ap, subst, ◌∙◌}
 use Rattle.std.specs.Option.{option_map}
 use Rattle.std.proofs.lemmas.List.{map-append}
 use Rattle.std.specs.Prelude.{IfSome, IsTrue}
@@ -16,9 +16,9 @@ use Rattle.gt_machine.specs.MachineState.{MachineState}
 use Rattle.gt_machine.specs.Run.{IsReached, run_of}
 use Rattle.gt_machine.specs.Step.{step_of}
 use Rattle.gt_machine.specs.declared.change.Change.{Change}
+use Rattle.gt_records.specs.ReadingEvents.{event_of}
 use Rattle.gt_records.specs.RecordText.{record_text}
 use Rattle.gt_setup.specs.Setup.{Setup}
-use Rattle.gt_types.specs.Event.{is_recordable, recordable_collections}
 use Rattle.gt_types.specs.declared.event.Event.{Event}
 
 -- what is there, with what it is
@@ -78,11 +78,11 @@ module _ {D : Type 0} (words : DiskWords D) (setup : Setup) where
     }
 
     -- one event more
-    pub agrees_more : (event : Event) (last : MachineState) → is_recordable recordable_collections event ≡ true → step_of setup m event ≡ Some last
+    pub agrees_more : (event : Event) (last : MachineState) → event_of (record_text event) ≡ Some event → step_of setup m event ≡ Some last
         → new.bodies ≡ old.bodies ++ record_text event ∷ [] → Agrees words setup last new
-    agrees_more event last recordable step more = record {
-      texts = more ∙ texts_more event recordable old.bodies agrees.texts ∙ ap (λ (bs : List (List ℕ)). map record_text (events_of bs)) (sym more);
-      runs = ap (λ (bs : List (List ℕ)). run_of setup (events_of bs)) more ∙ ap (λ (events : List Event). run_of setup events) (events_more event recordable old.bodies)
+    agrees_more event last again step more = record {
+      texts = more ∙ texts_more event again old.bodies agrees.texts ∙ ap (λ (bs : List (List ℕ)). map record_text (events_of bs)) (sym more);
+      runs = ap (λ (bs : List (List ℕ)). run_of setup (events_of bs)) more ∙ ap (λ (events : List Event). run_of setup events) (events_more event again old.bodies)
           ∙ run_more setup (events_of old.bodies) event m last agrees.runs step;
       images = images;
     }

@@ -45,10 +45,6 @@ submitted_tasks setup m last moment owner submission spec is =
     by_tests true false e = absurd (cc)
     by_tests false allowed e = absurd (cc)
 
-last_place : {X : Type 0} (xs : List X) (x : X) → slice_get (xs ++ x ∷ []) (length xs) ≡ Some x
-last_place [] x = refl
-last_place (first ∷ xs) x = last_place xs x
-
 found_place : {X : Type 0} (p : X → Bool) (xs : List X) (x : X) → find p xs ≡ Some x → (i : ℕ) × (slice_get xs i ≡ Some x) × (p x ≡ true)
 found_place p [] x is = absurd (cc)
 found_place p (first ∷ xs) x is = by_test (p first) refl (λ later. found_place p xs x later) is

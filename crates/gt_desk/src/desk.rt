@@ -14,7 +14,7 @@ ghost use Rattle.gt_types.specs.Command.{is_command};
 ghost use Rattle.gt_types.specs.Reply.{is_printable};
 
 use crate::laws::one_history;
-use crate::replaying::replay;
+use crate::replay::replay_bodies;
 use crate::{DeskFault, OpenFault, OpenRefused};
 use gt_disk::Disk;
 use gt_journal::{Journal, OpenFault as JournalOpenFault, one_reading};
@@ -57,7 +57,9 @@ fn refusal(alloc: Global, setup: &Setup, fault: JournalOpenFault) -> OpenFault
 {
     match fault {
         JournalOpenFault::JournalFault => OpenFault::JournalFault,
-        JournalOpenFault::Damaged { at_record, bodies } => match replay(alloc, setup, &bodies) {
+        JournalOpenFault::Damaged { at_record, bodies } => match replay_bodies(
+            alloc, setup, &bodies,
+        ) {
             Ok(_) => OpenFault::Damaged { at_record },
             Err(fault) => fault,
         },
@@ -86,7 +88,7 @@ impl<D: Disk> Desk<D> {
                 let fault = refusal(alloc, &setup, fault);
                 Err(OpenRefused { fault, setup, disk })
             }
-            Ok((journal, bodies)) => match replay(alloc, &setup, &bodies) {
+            Ok((journal, bodies)) => match replay_bodies(alloc, &setup, &bodies) {
                 Ok(state) => Ok(Desk {
                     setup,
                     journal,
@@ -125,7 +127,7 @@ impl<D: Disk> Desk<D> {
     }
 
     /// Answers the command of this identity at this moment. The event in doubt is settled first, then the machine decides,
-    /// and the event that it makes is recorded.
+    /// and the event that it makes is recorded, by `settle`, `decide` and `carry_out` (`steps.rt`).
     pub fn answer(
         &mut self,
         alloc: Global,
@@ -138,7 +140,8 @@ impl<D: Disk> Desk<D> {
         requires answered { IsTrue (is_answered command.now) }
 
         ensures call { IsCall D.words
-            (λ m. answer_of self.old.setup m identity.now command.now now) self.old result self.new }
+            (λ m. answer_of self.old.setup m identity.now command.now now)
+            self.old result self.new }
         ensures printable { IfOk result (λ reply. IsTrue (is_printable
             (length self.old.setup.collections) reply)) }
 

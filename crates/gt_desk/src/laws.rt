@@ -16,6 +16,7 @@ ghost use Rattle.gt_types.specs.declared.spec.TransferSpec.{TransferSpec};
 use gt_disk::Disk;
 use gt_journal::one_reading;
 use gt_machine::{runs_are_sound, runs_go_on, steps_are_recordable};
+use gt_records::record_text_reads_back;
 
 /// Nothing acknowledged is lost: whatever calls follow, and whatever they answer, a crash at each moment from now on leaves
 /// a file that stands for all of the present history, with what came after it.
@@ -53,5 +54,6 @@ pub fn one_history()
         → IsDamagedAt setup a file → IsDamagedAt setup b file → a ≡ b }
 {
     one_reading();
+    record_text_reads_back();
     steps_are_recordable();
 }

@@ -7,8 +7,8 @@
 mod desk;
 mod fault;
 mod laws;
-mod preparing;
-mod replaying;
+mod record;
+mod replay;
 mod steps;
 
 pub use desk::Desk;

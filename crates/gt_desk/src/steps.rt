@@ -13,11 +13,12 @@ ghost use Rattle.gt_types.specs.Command.{is_command};
 ghost use Rattle.gt_types.specs.Event.{is_recordable, recordable_collections};
 ghost use Rattle.gt_types.specs.Reply.{is_printable};
 
-use crate::preparing::prepare;
+use crate::record::plan_record;
 use crate::{Desk, DeskFault};
 use gt_disk::Disk;
 use gt_journal::{JournalFault, Settled};
 use gt_machine::{Decision, runs_are_sound};
+use gt_records::record_text_reads_back;
 use gt_types::{Command, Event, Reply};
 use gt_values::{Id, Moment};
 use std::alloc::{AllocError, Global};
@@ -37,8 +38,9 @@ impl<D: Disk> Desk<D> {
         ensures same { IsSameDesk D.words self.old self.new }
         ensures cause { IsErr result → HasFailed D.words.faults self.old.disk self.new.disk }
     {
-        // For the proof: a state counts the events that led to it.
+        // For the proof: a state counts the events that led to it, and the text of each reads back as that event.
         runs_are_sound();
+        record_text_reads_back();
         match self.journal.settle()? {
             Settled::Kept => {
                 if let Some(change) = self.doubt.take() {
@@ -51,7 +53,7 @@ impl<D: Disk> Desk<D> {
         Ok(())
     }
 
-    /// What the machine decides.
+    /// What the machine decides, by `State::decide` (`gt_machine/src/decide.rt`).
     pub(crate) fn decide(
         &self,
         alloc: Global,
@@ -63,7 +65,8 @@ impl<D: Disk> Desk<D> {
         requires within { IsTrue (is_command (length self.now.setup.collections) command.now) }
         requires answered { IsTrue (is_answered command.now) }
         ensures answer { IfOk result
-            (λ decision. decision ≡ answer_of self.now.setup self.now.ledger.machine identity.now command.now now) }
+            (λ decision. decision ≡ answer_of self.now.setup self.now.ledger.machine
+            identity.now command.now now) }
         ensures printable { IfOk result (λ decision. IsTrue (is_printable
             (length self.now.setup.collections) (said decision))) }
         ensures has_step { IfOk result (HasStep self.now.setup self.now.ledger.machine) }
@@ -91,9 +94,10 @@ impl<D: Disk> Desk<D> {
         ensures cause { IsErrOf result DeskFault.JournalFault
             → HasFailed D.words.faults self.old.disk self.new.disk }
     {
-        // For the proof: a state counts the events that led to it.
+        // For the proof: a state counts the events that led to it, and the text of each reads back as that event.
         runs_are_sound();
-        let prepared = prepare(alloc, &mut self.journal, &mut self.state, event);
+        record_text_reads_back();
+        let prepared = plan_record(alloc, &mut self.journal, &mut self.state, event);
         let Ok((change, body)) = prepared else {
             return Err(DeskFault::OutOfMemory);
         };

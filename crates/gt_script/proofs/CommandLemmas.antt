@@ -196,10 +196,6 @@ pub send_cut : (setup : Setup) (identity : List ℕ) (route : Route) (size : ℕ
 send_cut setup identity route size text is r cut =
     split_after 32 text is.token (route_text route ++ 32 ∷ decimal size) r cut (omega arith) is.whole (lacks_at 32 is.token (token_lacks_space setup is.token identity is.known))
 
--- a number that stands behind the same front
-pub same_size : (front text : List ℕ) (s t : ℕ) → s < 2 ^ 64 → t < 2 ^ 64 → text ≡ front ++ decimal s → text ≡ front ++ decimal t → s ≡ t
-same_size front text s t f g p q = decimal_injective s t f g (append_cancel front (decimal s) (decimal t) (sym p ∙ q))
-
 -- a text that is neither route with a number
 pub no_route : (text : List ℕ) → ((size : ℕ) → size ≤ most_body_bytes → text ≡ codes "GET /v0.10/submission_id " ++ decimal size → ⊥) → ((size : ℕ) → size ≤ most_body_bytes → text ≡ codes "POST /v0.10/transfer " ++ decimal size → ⊥)
     → (route : Route) (size : ℕ) → size ≤ most_body_bytes → text ≡ route_text route ++ 32 ∷ decimal size → ⊥

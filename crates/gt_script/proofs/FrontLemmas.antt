@@ -57,10 +57,6 @@ module _ (setup : Setup) where
       let front = same_front 10 command is.command new (is.rest ++ after) plain (plain_of line here.text is) (split line before (command ++ 10 ∷ new) after taken here) in
       omega (arith, late, size_of line before (command ++ 10 ∷ new) after taken here, here.fits, ap length front.word)
 
-  -- any bytes behind the script's limit
-  pub full_script : (before : ℕ) (bytes : List ℕ) → most_script_bytes ≤ before → BeginsNoLine setup before bytes
-  full_script before bytes full line after taken here = omega (arith, full, size_of line before bytes after taken here, here.fits)
-
   -- the rest of a line behind a command line that stands there
   pub goes_on : (command_line : CommandLine) (before : ℕ) (command bytes : List ℕ) (is : IsCommandText setup command_line command) (line : Line) (after : List ℕ) (taken : ℕ)
       → BeginsWith setup line before (command ++ 10 ∷ bytes) after taken → GoesOn setup command_line line (before + length command + 1) bytes after taken

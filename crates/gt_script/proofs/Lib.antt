@@ -1,8 +1,8 @@
 mod CommandLemmas
 mod DocumentLemmas
-pub mod FrontLemmas
+mod FrontLemmas
 mod LineTextLemmas
 mod ListLemmas
-pub mod ReadingLemmas
+mod ReadingLemmas
 mod RequestLemmas
-pub mod SetupLemmas
+mod SetupLemmas

@@ -1,4 +1,4 @@
--- What a caller of the reader needs of a script's text: one line more, no further line, and its one reading.
+-- What a script's text says of its lines: no further line, and one reading.
 use Rattle.gt_setup.specs.Setup.{Setup}
 use Rattle.std.proofs.Common.{List, [], ap, append-nil, append_assoc, arith, inl, inr, length, length-append, refl, subst, sym, ⊎_elim, ◌++◌, ◌+◌, ◌∙◌, ◌∷◌, ◌≡◌, ◌⊎◌, ℕ}
 use Rattle.gt_script.proofs.LineTextLemmas.{one_text}
@@ -15,12 +15,6 @@ pub record Split (setup : Setup) (lines more : List Line) (text : List ℕ) : Ty
   pub whole : text ≡ front ++ back
 
 module _ (setup : Setup) where
-  -- one line more
-  pub script_text_more : (lines : List Line) (line : Line) (text last : List ℕ) → ScriptText setup lines text → IsTextOf setup line last → ScriptText setup (lines ++ line ∷ []) (text ++ last)
-  script_text_more [] line text last so_far is = (last, [], is, refl, ap (λ s. s ++ last) so_far ∙ sym (append-nil last))
-  script_text_more (first ∷ rest) line text last (front, others, is_first, so_far, whole) is =
-      (front, others ++ last, is_first, script_text_more rest line others last so_far is, ap (λ s. s ++ last) whole ∙ append_assoc front others last)
-
   pub split_text : (lines more : List Line) (text : List ℕ) → ScriptText setup (lines ++ more) text → Split setup lines more text
   split_text [] more text is = record { front = []; back = text; is_front = refl; is_back = is; whole = refl }
   split_text (line ∷ rest) more text (first, others, is, so_far, whole) =
@@ -101,12 +95,6 @@ module _ (setup : Setup) where
         fits = omega (arith, reads.fits, ap length s.whole, length-append s.front s.back, ap length back, ap length same);
       })
 
-  -- behind the text of a line no other line stands there
-  pub ends_with_line : (line : Line) (before : ℕ) (text : List ℕ) → IsTextOf setup line text → EndsWithLine setup before text
-  ends_with_line line before text is other after taken here =
-      let same = one_text setup line other text here.text [] after is here.is_text (append-nil text ∙ here.whole) in
-      sym same.rest
-
   -- of two readings of the same bytes one is a front of the other
   pub one_reading : (lines others : List Line) (bytes after behind : List ℕ) → Reads setup lines bytes after → Reads setup others bytes behind
       → ((more : List Line) × (others ≡ lines ++ more)) ⊎ ((more : List Line) × (lines ≡ others ++ more))
@@ -130,12 +118,3 @@ module _ (setup : Setup) where
       let none : more ≡ [] = nothing_more others more bytes after stops (subst (λ ls. Reads setup ls bytes after) same one) in
       same ∙ ap (λ ls. others ++ ls) none ∙ append-nil others)
       (one_reading lines others bytes after behind one two)
-
-  -- a reading of the bytes that were taken is one of these with those left behind them
-  pub reads_before : (lines : List Line) (bytes taken beyond after : List ℕ) → bytes ≡ taken ++ after → Reads setup lines taken beyond → Reads setup lines bytes (beyond ++ after)
-  reads_before lines bytes taken beyond after whole reads = record {
-    text = reads.text;
-    is_text = reads.is_text;
-    whole = whole ∙ ap (λ s. s ++ after) reads.whole ∙ append_assoc reads.text beyond after;
-    fits = reads.fits;
-  }

@@ -3,3 +3,4 @@ pub mod Document
 pub mod Reading
 pub mod Script
 pub mod Submission
+pub mod TextFacts

@@ -43,7 +43,8 @@ pub enum CommandLine {
 pub fn read_command(setup: &Setup, command: &[u8]) -> Option<CommandLine>
     ensures some { IfSome result (λ line. IsCommandText setup.now line command.now) }
     ensures good { IfSome result (IsGoodCommand setup.now) }
-    ensures none { IsNone result → (line : CommandLine) → IsCommandText setup.now line command.now → ⊥ }
+    ensures none { IsNone result → (line : CommandLine)
+        → IsCommandText setup.now line command.now → ⊥ }
 {
     if command == b"end".as_slice() {
         return Some(CommandLine::End);
@@ -63,7 +64,8 @@ pub fn read_command(setup: &Setup, command: &[u8]) -> Option<CommandLine>
 // What follows `now `.
 fn read_now(seconds: &[u8]) -> Option<CommandLine>
     ensures some { IfSome result (λ line. IsNowOf line seconds.now) }
-    ensures none { IsNone result → (moment : ℕ) → IsTrue (is_moment moment) → seconds.now ≡ decimal moment → ⊥ }
+    ensures none { IsNone result → (moment : ℕ) → IsTrue (is_moment moment)
+        → seconds.now ≡ decimal moment → ⊥ }
 {
     let number = read_number(seconds)?;
     match Moment::of(number) {
@@ -76,7 +78,8 @@ fn read_now(seconds: &[u8]) -> Option<CommandLine>
 fn read_send(setup: &Setup, request: &[u8]) -> Option<CommandLine>
     ensures some { IfSome result (λ line. IsSendOf setup.now line request.now) }
     ensures good { IfSome result (IsGoodCommand setup.now) }
-    ensures none { IsNone result → (identity : List ℕ) (route : Route) (size : ℕ) → IsSendText setup.now identity route size request.now → ⊥ }
+    ensures none { IsNone result → (identity : List ℕ) (route : Route) (size : ℕ)
+        → IsSendText setup.now identity route size request.now → ⊥ }
 {
     match str::from_utf8(request) {
         Ok(text) => match text.split_once(' ') {
@@ -91,7 +94,9 @@ fn read_send(setup: &Setup, request: &[u8]) -> Option<CommandLine>
 fn send_of(setup: &Setup, token: &str, rest: &[u8]) -> Option<CommandLine>
     ensures some { IfSome result (λ line. IsSendOf setup.now line (token.now ++ 32 ∷ rest.now)) }
     ensures good { IfSome result (IsGoodCommand setup.now) }
-    ensures none { IsNone result → (identity : List ℕ) (route : Route) (size : ℕ) → caller_of setup.now token.now ≡ Some identity → size ≤ most_body_bytes → rest.now ≡ route_text route ++ 32 ∷ decimal size → ⊥ }
+    ensures none { IsNone result → (identity : List ℕ) (route : Route) (size : ℕ)
+        → caller_of setup.now token.now ≡ Some identity → size ≤ most_body_bytes
+        → rest.now ≡ route_text route ++ 32 ∷ decimal size → ⊥ }
 {
     let identity = caller_of(setup, token)?;
     let (route, size) = read_route(rest)?;
@@ -142,8 +147,10 @@ fn is_hyphen(token: &[u8]) -> bool
 
 // A method, a target and a number.
 fn read_route(text: &[u8]) -> Option<(Route, u64)>
-    ensures some { IfSome result (λ p. (text.now ≡ route_text p.0 ++ 32 ∷ decimal p.1) × (p.1 ≤ most_body_bytes)) }
-    ensures none { IsNone result → (route : Route) (size : ℕ) → size ≤ most_body_bytes → text.now ≡ route_text route ++ 32 ∷ decimal size → ⊥ }
+    ensures some { IfSome result (λ p. (text.now ≡ route_text p.0 ++ 32 ∷ decimal p.1)
+        × (p.1 ≤ most_body_bytes)) }
+    ensures none { IsNone result → (route : Route) (size : ℕ) → size ≤ most_body_bytes
+        → text.now ≡ route_text route ++ 32 ∷ decimal size → ⊥ }
 {
     if let Some(size) = size_behind(text, b"GET /v0.10/submission_id ") {
         return Some((Route::SubmissionId, size));
@@ -156,8 +163,10 @@ fn read_route(text: &[u8]) -> Option<(Route, u64)>
 
 // The number of a body's bytes, behind this front.
 fn size_behind(text: &[u8], front: &[u8]) -> Option<u64>
-    ensures some { IfSome result (λ size. (text.now ≡ front.now ++ decimal size) × (size ≤ most_body_bytes)) }
-    ensures none { IsNone result → (size : ℕ) → size ≤ most_body_bytes → text.now ≡ front.now ++ decimal size → ⊥ }
+    ensures some { IfSome result (λ size. (text.now ≡ front.now ++ decimal size)
+        × (size ≤ most_body_bytes)) }
+    ensures none { IsNone result → (size : ℕ) → size ≤ most_body_bytes
+        → text.now ≡ front.now ++ decimal size → ⊥ }
 {
     let digits = text.strip_prefix(front)?;
     let size = read_size(digits)?;
@@ -167,7 +176,8 @@ fn size_behind(text: &[u8], front: &[u8]) -> Option<u64>
 // The number of a body's bytes.
 fn read_size(digits: &[u8]) -> Option<u64>
     ensures some { IfSome result (λ size. (digits.now ≡ decimal size) × (size ≤ most_body_bytes)) }
-    ensures none { IsNone result → (size : ℕ) → size ≤ most_body_bytes → digits.now ≡ decimal size → ⊥ }
+    ensures none { IsNone result → (size : ℕ) → size ≤ most_body_bytes
+        → digits.now ≡ decimal size → ⊥ }
 {
     let size = read_number(digits)?;
     if size > BODY_LIMIT {
@@ -179,7 +189,8 @@ fn read_size(digits: &[u8]) -> Option<u64>
 // A number in decimal digits, with no sign and no needless zero in front.
 fn read_number(digits: &[u8]) -> Option<u64>
     ensures some { IfSome result (λ number. digits.now ≡ decimal number) }
-    ensures none { IsNone result → (number : ℕ) → number < 2 ^ 64 → digits.now ≡ decimal number → ⊥ }
+    ensures none { IsNone result → (number : ℕ) → number < 2 ^ 64
+        → digits.now ≡ decimal number → ⊥ }
 {
     match str::from_utf8(digits) {
         Ok(text) => match text.parse::<u64>() {

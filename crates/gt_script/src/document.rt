@@ -39,7 +39,9 @@ pub fn is_object_of(value: &Value, names: &[&str]) -> bool
 }
 
 fn has_only(object: &Map<String, Value>, names: &[&str]) -> bool
-    ensures { result ≡ list_all (λ key. list_any (λ other. bytes_eq other.now (string_bytes key)) names.now) (keys object.now) }
+    ensures { result ≡ list_all
+        (λ key. list_any (λ other. bytes_eq other.now (string_bytes key)) names.now)
+        (keys object.now) }
 {
     object.keys().all(|name| is_among(name.as_str(), names))
 }

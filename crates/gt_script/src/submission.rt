@@ -34,7 +34,8 @@ pub fn read_submission(
     body: &[u8],
 ) -> Result<Option<Command>, AllocError>
     ensures value { IfOk result (λ command. command ≡ submitted setup.now body.now) }
-    ensures within { IfOk result (λ o. IfSome o (λ command. IsTrue (is_command (length setup.now.collections) command))) }
+    ensures within { IfOk result (λ o. IfSome o (λ command. IsTrue (is_command
+        (length setup.now.collections) command))) }
     ensures kind { IfOk result (λ o. IfSome o IsSubmitTransfer) }
 {
     match parse(alloc, body)? {
@@ -49,7 +50,8 @@ fn read_transfer(
     document: &Value,
 ) -> Result<Option<Command>, AllocError>
     ensures value { IfOk result (λ command. command ≡ transfer_of setup.now (view document.now)) }
-    ensures within { IfOk result (λ o. IfSome o (λ command. IsTrue (is_command (length setup.now.collections) command))) }
+    ensures within { IfOk result (λ o. IfSome o (λ command. IsTrue (is_command
+        (length setup.now.collections) command))) }
     ensures kind { IfOk result (λ o. IfSome o IsSubmitTransfer) }
 {
     if !is_object_of(document, &DOCUMENT_MEMBERS) {
@@ -98,8 +100,10 @@ fn read_entry(
 ) -> Result<Option<TransferEntry>, AllocError>
     requires source { source < length setup.now.collections }
     requires destination { destination < length setup.now.collections }
-    ensures value { IfOk result (λ entry. entry ≡ entry_of setup.now source destination (view item.now)) }
-    ensures within { IfOk result (λ o. IfSome o (λ entry. IsTrue (is_transfer_entry (source == destination) entry))) }
+    ensures value { IfOk result (λ entry. entry ≡ entry_of setup.now source destination
+        (view item.now)) }
+    ensures within { IfOk result (λ o. IfSome o (λ entry. IsTrue (is_transfer_entry
+        (source == destination) entry))) }
 {
     if !is_object_of(item, &ENTRY_MEMBERS) {
         return Ok(None);

@@ -5,9 +5,9 @@ use Rattle.gt_desk.specs.History.{Stands, StandsWith}
 use Rattle.gt_disk.specs.Moments.{started}
 use Rattle.gt_disk.specs.Disk.{DiskLaws, DiskWords}
 use Rattle.gt_machine.specs.Run.{run_of}
-use Rattle.gt_script.proofs.ReadingLemmas.{ends_behind, ends_with_next, script_text_more}
 use Rattle.gt_script.specs.Reading.{BeginsNoLine, BeginsWith, BreaksOff, EndsWithLine, Refuses, Stops, TakesOneLine}
 use Rattle.gt_script.specs.Script.{EndsBehind, EndsWithNext, ScriptText, most_script_bytes}
+use Rattle.gt_script.specs.TextFacts.{script_text_more}
 use Rattle.gt_script.specs.declared.line.Line.{Line}
 use Rattle.gt_script.specs.declared.line.Line.TheVariants.{End}
 use Rattle.gt_script.specs.declared.line.ScriptFault.{ScriptFault}
@@ -112,50 +112,53 @@ module _ {D : Type 0} (words : DiskWords D) (honest : Bool) where
       reads = record { text = text; is_text = is; whole = refl; fits = omega (arith, fits, size) };
     }
 
-    -- those of a line that breaks off
-    gave : taken ≤ most_script_bytes → IsTrue script.told → (off : BreaksOff setup taken script.after after)
-        → (beyond : List ℕ) × (given : Gave setup (lines_of so_far.run) (record script { after = after }) beyond) × EndsBehind setup (lines_of so_far.run) given.taken
-    unfolding given
-    gave fits t off =
-        let (text, is, whole, size) = so_far.read t in (
-          off.gone,
-          given fits text off.gone is whole size off.whole,
-          ends_behind setup (lines_of so_far.run) text off.gone is (subst (λ n. BeginsNoLine setup n off.gone) (sym size) off.unfinished),
-        )
+    -- what stands behind the text of some lines says which line follows them
+    module _ (none_follows : (lines : List Line) (text rest : List ℕ) → ScriptText setup lines text → BeginsNoLine setup (length text) rest → EndsBehind setup lines (text ++ rest))
+        (last_follows : (lines : List Line) (text rest : List ℕ) → ScriptText setup lines text → EndsWithLine setup (length text) rest → EndsWithNext setup lines (text ++ rest)) where
+      -- those of a line that breaks off
+      gave : taken ≤ most_script_bytes → IsTrue script.told → (off : BreaksOff setup taken script.after after)
+          → (beyond : List ℕ) × (given : Gave setup (lines_of so_far.run) (record script { after = after }) beyond) × EndsBehind setup (lines_of so_far.run) given.taken
+      unfolding given
+      gave fits t off =
+          let (text, is, whole, size) = so_far.read t in (
+            off.gone,
+            given fits text off.gone is whole size off.whole,
+            none_follows (lines_of so_far.run) text off.gone is (subst (λ n. BeginsNoLine setup n off.gone) (sym size) off.unfinished),
+          )
 
-    -- nothing behind one further line was taken
-    gave_one : taken ≤ most_script_bytes → IsTrue script.told → (off : TakesOneLine setup taken script.after after)
-        → (beyond : List ℕ) × (given : Gave setup (lines_of so_far.run) (record script { after = after }) beyond) × EndsWithNext setup (lines_of so_far.run) given.taken
-    unfolding given
-    gave_one fits t off =
-        let (text, is, whole, size) = so_far.read t in (
-          off.gone,
-          given fits text off.gone is whole size off.whole,
-          ends_with_next setup (lines_of so_far.run) text off.gone is (subst (λ n. EndsWithLine setup n off.gone) (sym size) off.at_most_one),
-        )
+      -- nothing behind one further line was taken
+      gave_one : taken ≤ most_script_bytes → IsTrue script.told → (off : TakesOneLine setup taken script.after after)
+          → (beyond : List ℕ) × (given : Gave setup (lines_of so_far.run) (record script { after = after }) beyond) × EndsWithNext setup (lines_of so_far.run) given.taken
+      unfolding given
+      gave_one fits t off =
+          let (text, is, whole, size) = so_far.read t in (
+            off.gone,
+            given fits text off.gone is whole size off.whole,
+            last_follows (lines_of so_far.run) text off.gone is (subst (λ n. EndsWithLine setup n off.gone) (sym size) off.at_most_one),
+          )
 
-    ended_between : (fault : ScriptFault) → taken ≤ most_script_bytes → Refuses (number + 1) (IsTrue script.told → BeginsNoLine setup taken script.after) fault → (IsTrue script.told → Stops setup taken script.after after fault)
-        → EndsAs (exit_of_read fault) setup start so_far.run [] (record script { after = after }) out
-    ended_between (ReadRefused line) fits (is, none) off = record {
-      count = is ∙ ap (λ (n : ℕ). n + 1) (sym so_far.count);
-      unended = so_far.unended;
-      idle = refl;
-      read = λ t.
-          let (text, is, whole, size) = so_far.read t in
-          let (beyond, given, ends) = gave fits t (off t) in
-          ((beyond, given), subst (EndsBehind setup (lines_of so_far.run)) (sym whole) (ends_behind setup (lines_of so_far.run) text script.after is (subst (λ n. BeginsNoLine setup n script.after) (sym size) (none t))));
-      written = so_far.written;
-    }
-    ended_between ReadSourceFault fits none off = record { unended = so_far.unended; idle = refl; read = λ t. gave fits t (off t); written = so_far.written }
-    ended_between ReadOutOfMemory fits none off = inl (record { unended = so_far.unended; idle = refl; read = λ t. gave_one fits t (off t); written = so_far.written })
+      ended_between : (fault : ScriptFault) → taken ≤ most_script_bytes → Refuses (number + 1) (IsTrue script.told → BeginsNoLine setup taken script.after) fault → (IsTrue script.told → Stops setup taken script.after after fault)
+          → EndsAs (exit_of_read fault) setup start so_far.run [] (record script { after = after }) out
+      ended_between (ReadRefused line) fits (is, none) off = record {
+        count = is ∙ ap (λ (n : ℕ). n + 1) (sym so_far.count);
+        unended = so_far.unended;
+        idle = refl;
+        read = λ t.
+            let (text, is, whole, size) = so_far.read t in
+            let (beyond, given, ends) = gave fits t (off t) in
+            ((beyond, given), subst (EndsBehind setup (lines_of so_far.run)) (sym whole) (none_follows (lines_of so_far.run) text script.after is (subst (λ n. BeginsNoLine setup n script.after) (sym size) (none t))));
+        written = so_far.written;
+      }
+      ended_between ReadSourceFault fits none off = record { unended = so_far.unended; idle = refl; read = λ t. gave fits t (off t); written = so_far.written }
+      ended_between ReadOutOfMemory fits none off = inl (record { unended = so_far.unended; idle = refl; read = λ t. gave_one fits t (off t); written = so_far.written })
 
-    -- no line was read
-    pub not_read : (fault : ScriptFault) (exit : Exit) (disk : D) → exit ≡ exit_of_read fault → disk ≡ session.desk.disk → taken ≤ most_script_bytes → Refuses (number + 1) (IsTrue script.told → BeginsNoLine setup taken script.after) fault
-        → (IsTrue script.told → Stops setup taken script.after after fault) → Ran words honest exit setup start first disk (record script { after = after }) out
-    not_read fault exit disk is same fits none off =
-        subst (λ (x : Exit). Ran words honest x setup start first disk (record script { after = after }) out) (sym is)
-        (subst (λ (x : D). Ran words honest (exit_of_read fault) setup start first x (record script { after = after }) out) (sym same)
-        (idle (exit_of_read fault) (ended_between fault fits none off)))
+      -- no line was read
+      pub not_read : (fault : ScriptFault) (exit : Exit) (disk : D) → exit ≡ exit_of_read fault → disk ≡ session.desk.disk → taken ≤ most_script_bytes → Refuses (number + 1) (IsTrue script.told → BeginsNoLine setup taken script.after) fault
+          → (IsTrue script.told → Stops setup taken script.after after fault) → Ran words honest exit setup start first disk (record script { after = after }) out
+      not_read fault exit disk is same fits none off =
+          subst (λ (x : Exit). Ran words honest x setup start first disk (record script { after = after }) out) (sym is)
+          (subst (λ (x : D). Ran words honest (exit_of_read fault) setup start first x (record script { after = after }) out) (sym same)
+          (idle (exit_of_read fault) (ended_between fault fits none off)))
 
     module _ (line : Line) (through : ℕ) (is : IsTrue script.told → BeginsWith setup line taken script.after after through) where
       -- the text with the line

@@ -5,24 +5,32 @@ use Rattle.gt_machine.specs.declared.line.TaskLine.{TaskLine}
 use Rattle.gt_script.specs.declared.line.Line.{Line}
 use Rattle.gt_script.specs.declared.line.Line.TheVariants.{End, Now, Restart, Send}
 use Rattle.gt_setup.specs.Setup.{Setup}
+use Rattle.gt_setup.specs.declared.parts.Collection.{Collection}
 use Rattle.gt_types.specs.declared.code.Status.TheVariants.{Succeeded}
-use Rattle.gt_types.specs.declared.command.Command.TheVariants.{IssueId}
+use Rattle.gt_types.specs.declared.command.Command.TheVariants.{IssueId, SubmitTransfer as AskTransfer}
 use Rattle.gt_types.specs.declared.event.Event.{Event}
-use Rattle.gt_types.specs.declared.event.Happening.TheVariants.{Issue}
+use Rattle.gt_types.specs.declared.event.Happening.TheVariants.{Issue, SubmitTransfer}
 use Rattle.gt_types.specs.declared.reply.Counters.{Counters}
-use Rattle.gt_types.specs.declared.reply.Reply.TheVariants.{Identifier}
+use Rattle.gt_types.specs.declared.reply.Reply.TheVariants.{Identifier, Submitted}
+use Rattle.gt_types.specs.declared.spec.TransferSpec.{TransferSpec}
 use Rattle.gt_world.specs.World.{NoMemory, Quiet, SetMoment, Taken, World, world_on}
 use Rattle.std.proofs.Common.{List, None, [], refl, ◌++◌, ◌∷◌, ◌≡◌, ℕ}
 use Rattle.std.specs.Fmt.{digits}
-use Rattle.std.specs.Prelude.{codes, true}
+use Rattle.std.specs.Prelude.{codes, false, true}
+use Rattle.std.specs.Str.{chars, is_utf8}
+use lib.Utf8.{encode}
 use Rattle.transferd.specs.Calm.{calm, calm_script}
 use Rattle.transferd.specs.Exits.{status_of}
 use Rattle.transferd.specs.Output.{answer_text, line_output, reply_line, restart_text, task_text}
 use Rattle.transferd.specs.Run.{Makes}
 use Rattle.transferd.specs.declared.exit.Exit.TheVariants.{Damaged, Done, JournalFault, OutOfMemory, ScriptRefused, SinkFault, SourceFault, Usage}
 
+-- an identifier of sixteen bytes, of which the last is this
+abbrev id : ℕ → List ℕ
+id n = 0 ∷ 0 ∷ 0 ∷ 0 ∷ 0 ∷ 0 ∷ 64 ∷ 0 ∷ 128 ∷ 0 ∷ 0 ∷ 0 ∷ 0 ∷ 0 ∷ 0 ∷ n ∷ []
+
 abbrev ann : List ℕ
-ann = 0 ∷ 0 ∷ 0 ∷ 0 ∷ 0 ∷ 0 ∷ 64 ∷ 0 ∷ 128 ∷ 0 ∷ 0 ∷ 0 ∷ 0 ∷ 0 ∷ 0 ∷ 161 ∷ []
+ann = id 161
 
 -- one identity, no collection
 abbrev setup : Setup
@@ -55,6 +63,39 @@ identifiers = refl
 pub on_a_history : calm_script setup (issued 100 ∷ []) (Send ann IssueId ∷ End ∷ []) ≡ (reply_line setup (Identifier 2) ++ (codes "end 2 0" ++ 10 ∷ []), issued 100 ∷ [])
 unfolding digits
 on_a_history = refl
+
+abbrev collection : ℕ → Collection
+collection n = record { id = id n; name = []; owner = ann; home = [] }
+
+-- one identity and two collections
+abbrev desk : Setup
+desk = record setup { collections = collection 192 ∷ collection 193 ∷ [] }
+
+-- a transfer of `/e` to a path of one name
+abbrev transfer_to : List ℕ → TransferSpec
+transfer_to name = record {
+  source = 0;
+  destination = 1;
+  label = None;
+  deadline = None;
+  level = None;
+  verify = true;
+  preserve = false;
+  extra = false;
+  skip_source = false;
+  kept = record { given = 0; set = 0 };
+  rules = [];
+  entries = record { source = (101 ∷ []) ∷ []; destination = name ∷ []; recursive = None } ∷ [];
+}
+
+-- a submission, and one with the same identifier and another document, which is told of the first one's task
+pub submission_and_repeat :
+    calm_script desk [] (Now 100 ∷ Send ann (AskTransfer (id 178) (transfer_to (101 ∷ []))) ∷ Send ann (AskTransfer (id 178) (transfer_to (102 ∷ []))) ∷ End ∷ [])
+    ≡ (reply_line desk (Submitted false true (id 178) 1) ++ (reply_line desk (Submitted false false (id 178) 1)
+    ++ (codes "end 1 1" ++ 10 ∷ (codes "task 1 TRANSFER ACTIVE 1 1 0 0 0 0 0 0 0 0" ++ 10 ∷ []))),
+    (record { moment = 100; what = SubmitTransfer ann (id 178) (transfer_to (101 ∷ [])) }) ∷ [])
+unfolding digits is_utf8 chars encode
+submission_and_repeat = refl
 
 -- a task's line shows ten of its counters
 pub task_line :

@@ -3,8 +3,8 @@ use Rattle.gt_desk.specs.Damage.{IsDamagedAs, IsDamagedAt}
 use Rattle.gt_desk.specs.History.{StandsFor}
 use Rattle.gt_desk.specs.declared.fault.OpenFault.{OpenFault}
 use Rattle.gt_desk.specs.declared.fault.OpenFault.TheVariants.{Damaged as OpenDamaged}
-use Rattle.gt_script.proofs.ReadingLemmas.{nothing_more, one_reading, reads_before, same_lines}
-use Rattle.gt_script.specs.Script.{Reads}
+use Rattle.gt_script.specs.Script.{EndsBehind, Reads}
+use Rattle.gt_script.specs.TextFacts.{reads_before}
 use Rattle.gt_script.specs.declared.line.Line.{Line}
 use Rattle.gt_script.specs.declared.line.Line.TheVariants.{End}
 use Rattle.gt_disk.specs.Disk.{DiskWords}
@@ -23,27 +23,10 @@ use Rattle.gt_world.specs.World.{NotOpened, Reopen, Step, StepAnswer, Taken, Wor
 use Rattle.transferd.specs.declared.exit.Exit.{Exit}
 use Rattle.transferd.specs.declared.exit.Exit.TheVariants.{Damaged, Done, JournalFault, OutOfMemory, ScriptRefused, SetupRefused, SinkFault, SourceFault}
 
-module _ (setup : Setup) where
-  -- lines that go on behind an end are ended
-  ended_inside : (before more : List Line) → IsUnended (before ++ End ∷ [] ++ more) → ⊥
-  ended_inside [] more unended = unended.0 refl
-  ended_inside (line ∷ before) more unended = ended_inside before more unended.1
-
-  -- a reading through the end, and one that no line follows
-  done_or_refused : (script : List ℕ) (number : ℕ) → ScriptExit setup script Done → ScriptExit setup script (ScriptRefused number) → ⊥
-  done_or_refused script number (lines, after, one, (before, start, ended)) (others, behind, two, unended, ends, count) =
-      ⊎_elim
-      (λ (more, same). ended_inside before more (subst IsUnended (same ∙ ap (λ ls. ls ++ more) ended) unended))
-      (λ (more, same).
-      let none : more ≡ [] = nothing_more setup others more script after ends (subst (λ ls. Reads setup ls script after) same one) in
-      let equal : others ≡ before ++ End ∷ [] ++ [] = sym (append-nil others) ∙ ap (λ ls. others ++ ls) (sym none) ∙ sym same ∙ ended ∙ sym (append-nil (before ++ End ∷ [])) in
-      ended_inside before [] (subst IsUnended equal unended))
-      (one_reading setup lines others script after behind one two)
-
-  -- two readings that no line follows
-  one_refusal : (script : List ℕ) (number other : ℕ) → ScriptExit setup script (ScriptRefused number) → ScriptExit setup script (ScriptRefused other) → number ≡ other
-  one_refusal script number other (lines, after, one, unended, ends, count) (others, behind, two, unended', stops, counts) =
-      count ∙ ap (λ (ls : List Line). length ls + 1) (same_lines setup lines others script after behind one ends two stops) ∙ sym counts
+-- lines that go on behind an end are ended
+ended_inside : (before more : List Line) → IsUnended (before ++ End ∷ [] ++ more) → ⊥
+ended_inside [] more unended = unended.0 refl
+ended_inside (line ∷ before) more unended = ended_inside before more unended.1
 
 -- the bytes of a setup stand for one setup or have one fault
 setup_or_fault : (r : Result Setup SetupFault) (setup : Setup) (fault : SetupFault) → r ≡ Ok setup → r ≡ Err fault → ⊥
@@ -59,45 +42,66 @@ one_fault r fault other a b = let both = sym a ∙ b in cc
 under : (bytes : List ℕ) (P Q : Setup → Type 0) (R : Type 0) → ((setup : Setup) → setup_of (setup_read bytes) ≡ Ok setup → P setup → Q setup → R) → UnderSetup bytes P → UnderSetup bytes Q → R
 under bytes P Q R so (setup, is, p) (other, also, q) = so setup is p (subst Q (sym (one_setup (setup_of (setup_read bytes)) setup other is also)) q)
 
--- where a file stands for one history, or is damaged at one record
-module _ (few : Setup → Type 0) (apart : (setup : Setup) (history : List Event) (number : ℕ) (file : List ℕ) → few setup → StandsFor setup history file → IsDamagedAt setup number file → ⊥)
-    (one_damage : (setup : Setup) (a b : ℕ) (file : List ℕ) → few setup → IsDamagedAt setup a file → IsDamagedAt setup b file → a ≡ b)
-    (bytes script file : List ℕ) (are_few : (setup : Setup) → setup_of (setup_read bytes) ≡ Ok setup → few setup) where
-  -- a file that stands for a history is not damaged
-  whole : (exit : Setup → Type 0) (number : ℕ) → UnderSetup bytes (λ setup. ((history : List Event) × StandsFor setup history file) × exit setup) → UnderSetup bytes (λ setup. IsDamagedAt setup number file) → ⊥
-  whole exit number = under bytes (λ setup. ((history : List Event) × StandsFor setup history file) × exit setup) (λ setup. IsDamagedAt setup number file) ⊥ (λ setup is stands damaged. apart setup stands.0.0 number file (are_few setup is) stands.0.1 damaged)
+-- where a script has one reading
+module _ (one_reading : (setup : Setup) (lines others : List Line) (bytes after behind : List ℕ) → Reads setup lines bytes after → Reads setup others bytes behind
+    → ((more : List Line) × (others ≡ lines ++ more)) ⊎ ((more : List Line) × (lines ≡ others ++ more)))
+    (one_whole : (setup : Setup) (lines others : List Line) (bytes after behind : List ℕ) → Reads setup lines bytes after → EndsBehind setup lines bytes → Reads setup others bytes behind → EndsBehind setup others bytes → lines ≡ others)
+    (none_more : (setup : Setup) (lines more : List Line) (bytes after : List ℕ) → EndsBehind setup lines bytes → Reads setup (lines ++ more) bytes after → more ≡ []) where
+  -- a reading through the end, and one that no line follows
+  done_or_refused : (setup : Setup) (script : List ℕ) (number : ℕ) → ScriptExit setup script Done → ScriptExit setup script (ScriptRefused number) → ⊥
+  done_or_refused setup script number (lines, after, one, (before, start, ended)) (others, behind, two, unended, ends, count) =
+      ⊎_elim
+      (λ (more, same). ended_inside before more (subst IsUnended (same ∙ ap (λ ls. ls ++ more) ended) unended))
+      (λ (more, same).
+      let none : more ≡ [] = none_more setup others more script after ends (subst (λ ls. Reads setup ls script after) same one) in
+      let equal : others ≡ before ++ End ∷ [] ++ [] = sym (append-nil others) ∙ ap (λ ls. others ++ ls) (sym none) ∙ sym same ∙ ended ∙ sym (append-nil (before ++ End ∷ [])) in
+      ended_inside before [] (subst IsUnended equal unended))
+      (one_reading setup lines others script after behind one two)
 
-  -- a setup that is refused is none
-  refused : (P : Setup → Type 0) (fault : SetupFault) → UnderSetup bytes P → setup_of (setup_read bytes) ≡ Err fault → ⊥
-  refused P fault (setup, is, holds) none = setup_or_fault (setup_of (setup_read bytes)) setup fault is none
+  -- two readings that no line follows
+  one_refusal : (setup : Setup) (script : List ℕ) (number other : ℕ) → ScriptExit setup script (ScriptRefused number) → ScriptExit setup script (ScriptRefused other) → number ≡ other
+  one_refusal setup script number other (lines, after, one, unended, ends, count) (others, behind, two, unended', stops, counts) =
+      count ∙ ap (λ (ls : List Line). length ls + 1) (one_whole setup lines others script after behind one ends two stops) ∙ sym counts
 
-  done_or : (number : ℕ) → ExitFor bytes script file Done → ExitFor bytes script file (ScriptRefused number) → ⊥
-  done_or number = under bytes (λ s. DeskExit s script file Done) (λ s. DeskExit s script file (ScriptRefused number)) ⊥ (λ setup is a b. done_or_refused setup script number a.1 b.1)
+  -- where a file stands for one history, or is damaged at one record
+  module _ (few : Setup → Type 0) (apart : (setup : Setup) (history : List Event) (number : ℕ) (file : List ℕ) → few setup → StandsFor setup history file → IsDamagedAt setup number file → ⊥)
+      (one_damage : (setup : Setup) (a b : ℕ) (file : List ℕ) → few setup → IsDamagedAt setup a file → IsDamagedAt setup b file → a ≡ b)
+      (bytes script file : List ℕ) (are_few : (setup : Setup) → setup_of (setup_read bytes) ≡ Ok setup → few setup) where
+    -- a file that stands for a history is not damaged
+    whole : (exit : Setup → Type 0) (number : ℕ) → UnderSetup bytes (λ setup. ((history : List Event) × StandsFor setup history file) × exit setup) → UnderSetup bytes (λ setup. IsDamagedAt setup number file) → ⊥
+    whole exit number = under bytes (λ setup. ((history : List Event) × StandsFor setup history file) × exit setup) (λ setup. IsDamagedAt setup number file) ⊥ (λ setup is stands damaged. apart setup stands.0.0 number file (are_few setup is) stands.0.1 damaged)
 
-  pub one_exit : (exit other : Exit) → ExitFor bytes script file exit → ExitFor bytes script file other → exit ≡ other
-  one_exit Done Done a b = refl
-  one_exit Done (ScriptRefused m) a b = absurd (done_or m a b)
-  one_exit Done (Damaged m) a b = absurd (whole (λ s. ScriptExit s script Done) m a b)
-  one_exit Done (SetupRefused g) a b = absurd (refused (λ s. DeskExit s script file Done) g a b)
-  one_exit (ScriptRefused n) Done a b = absurd (done_or n b a)
-  one_exit (ScriptRefused n) (ScriptRefused m) a b =
-      ap (λ (k : ℕ). ScriptRefused k) (under bytes (λ s. DeskExit s script file (ScriptRefused n)) (λ s. DeskExit s script file (ScriptRefused m)) (n ≡ m) (λ setup is p q. one_refusal setup script n m p.1 q.1) a b)
-  one_exit (ScriptRefused n) (Damaged m) a b = absurd (whole (λ s. ScriptExit s script (ScriptRefused n)) m a b)
-  one_exit (ScriptRefused n) (SetupRefused g) a b = absurd (refused (λ s. DeskExit s script file (ScriptRefused n)) g a b)
-  one_exit (Damaged n) Done a b = absurd (whole (λ s. ScriptExit s script Done) n b a)
-  one_exit (Damaged n) (ScriptRefused m) a b = absurd (whole (λ s. ScriptExit s script (ScriptRefused m)) n b a)
-  one_exit (Damaged n) (Damaged m) a b =
-      ap (λ (k : ℕ). Damaged k) (under bytes (λ s. IsDamagedAt s n file) (λ s. IsDamagedAt s m file) (n ≡ m) (λ setup is p q. one_damage setup n m file (are_few setup is) p q) a b)
-  one_exit (Damaged n) (SetupRefused g) a b = absurd (refused (λ s. IsDamagedAt s n file) g a b)
-  one_exit (SetupRefused f) Done a b = absurd (refused (λ s. DeskExit s script file Done) f b a)
-  one_exit (SetupRefused f) (ScriptRefused m) a b = absurd (refused (λ s. DeskExit s script file (ScriptRefused m)) f b a)
-  one_exit (SetupRefused f) (Damaged m) a b = absurd (refused (λ s. IsDamagedAt s m file) f b a)
-  one_exit (SetupRefused f) (SetupRefused g) a b = ap (λ x. SetupRefused x) (one_fault (setup_of (setup_read bytes)) f g a b)
-  one_exit Done other a b = absurd b
-  one_exit (ScriptRefused n) other a b = absurd b
-  one_exit (Damaged n) other a b = absurd b
-  one_exit (SetupRefused f) other a b = absurd b
-  one_exit exit other a b = absurd a
+    -- a setup that is refused is none
+    refused : (P : Setup → Type 0) (fault : SetupFault) → UnderSetup bytes P → setup_of (setup_read bytes) ≡ Err fault → ⊥
+    refused P fault (setup, is, holds) none = setup_or_fault (setup_of (setup_read bytes)) setup fault is none
+
+    done_or : (number : ℕ) → ExitFor bytes script file Done → ExitFor bytes script file (ScriptRefused number) → ⊥
+    done_or number = under bytes (λ s. DeskExit s script file Done) (λ s. DeskExit s script file (ScriptRefused number)) ⊥ (λ setup is a b. done_or_refused setup script number a.1 b.1)
+
+    pub one_exit : (exit other : Exit) → ExitFor bytes script file exit → ExitFor bytes script file other → exit ≡ other
+    one_exit Done Done a b = refl
+    one_exit Done (ScriptRefused m) a b = absurd (done_or m a b)
+    one_exit Done (Damaged m) a b = absurd (whole (λ s. ScriptExit s script Done) m a b)
+    one_exit Done (SetupRefused g) a b = absurd (refused (λ s. DeskExit s script file Done) g a b)
+    one_exit (ScriptRefused n) Done a b = absurd (done_or n b a)
+    one_exit (ScriptRefused n) (ScriptRefused m) a b =
+        ap (λ (k : ℕ). ScriptRefused k) (under bytes (λ s. DeskExit s script file (ScriptRefused n)) (λ s. DeskExit s script file (ScriptRefused m)) (n ≡ m) (λ setup is p q. one_refusal setup script n m p.1 q.1) a b)
+    one_exit (ScriptRefused n) (Damaged m) a b = absurd (whole (λ s. ScriptExit s script (ScriptRefused n)) m a b)
+    one_exit (ScriptRefused n) (SetupRefused g) a b = absurd (refused (λ s. DeskExit s script file (ScriptRefused n)) g a b)
+    one_exit (Damaged n) Done a b = absurd (whole (λ s. ScriptExit s script Done) n b a)
+    one_exit (Damaged n) (ScriptRefused m) a b = absurd (whole (λ s. ScriptExit s script (ScriptRefused m)) n b a)
+    one_exit (Damaged n) (Damaged m) a b =
+        ap (λ (k : ℕ). Damaged k) (under bytes (λ s. IsDamagedAt s n file) (λ s. IsDamagedAt s m file) (n ≡ m) (λ setup is p q. one_damage setup n m file (are_few setup is) p q) a b)
+    one_exit (Damaged n) (SetupRefused g) a b = absurd (refused (λ s. IsDamagedAt s n file) g a b)
+    one_exit (SetupRefused f) Done a b = absurd (refused (λ s. DeskExit s script file Done) f b a)
+    one_exit (SetupRefused f) (ScriptRefused m) a b = absurd (refused (λ s. DeskExit s script file (ScriptRefused m)) f b a)
+    one_exit (SetupRefused f) (Damaged m) a b = absurd (refused (λ s. IsDamagedAt s m file) f b a)
+    one_exit (SetupRefused f) (SetupRefused g) a b = ap (λ x. SetupRefused x) (one_fault (setup_of (setup_read bytes)) f g a b)
+    one_exit Done other a b = absurd b
+    one_exit (ScriptRefused n) other a b = absurd b
+    one_exit (Damaged n) other a b = absurd b
+    one_exit (SetupRefused f) other a b = absurd b
+    one_exit exit other a b = absurd a
 
 -- a step that finds the journal damaged
 finds_damage : (setup : Setup) (honest : Bool) (start : World) (last : List Taken) (number : ℕ) → ReopenFails (OpenDamaged number) last → WorldRun setup honest start last → honest ≡ false

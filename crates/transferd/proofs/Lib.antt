@@ -5,7 +5,7 @@ mod EndingLemmas
 mod Examples
 mod ExitLemmas
 mod LentLemmas
-mod MakingLemmas
+mod LineLemmas
 mod OpeningLemmas
 mod RunLemmas
-mod ServingLemmas
+mod ServedLemmas

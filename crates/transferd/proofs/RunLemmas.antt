@@ -41,10 +41,6 @@ out_text_more setup start (first ∷ rest) played =
     let after = world_after start first.steps in
     ap (λ (s : List ℕ). front ++ s) (out_text_more setup after rest played) ∙ sym (append_assoc front (out_text setup after rest) (line_output setup (world_at after rest) played.line played.steps))
 
-pub length-lines_of : (run : List Played) → length run ≡ length (lines_of run)
-length-lines_of [] = refl
-length-lines_of (first ∷ rest) = ap suc (length-lines_of rest)
-
 -- the steps of all lines, and those behind them, are one run
 pub all_steps : (setup : Setup) (honest : Bool) (start : World) (run : List Played) (last : List Taken) → ScriptRun setup honest start run → WorldRun setup honest (world_at start run) last → WorldRun setup honest start (steps_of run ++ last)
 all_steps setup honest start [] last lines further = further

@@ -14,6 +14,7 @@ ghost use Rattle.transferd.specs.declared.exit.Exit.{Exit};
 use gt_desk::one_history;
 use gt_disk::Disk;
 use gt_machine::runs_go_on;
+use gt_script::a_script_has_one_reading;
 
 /// Where nothing fails, the bytes of a setup, of a script and of a journal come to one exit. A setup has fewer than 2^32
 /// collections.
@@ -23,6 +24,7 @@ pub fn one_exit_where_nothing_fails()
         → length opened.collections < 2 ^ 32)
         → ExitFor setup script file exit → ExitFor setup script file other → exit ≡ other }
 {
+    a_script_has_one_reading();
     one_history();
 }
 

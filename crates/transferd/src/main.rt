@@ -7,14 +7,12 @@
 
 mod exit;
 mod laws;
-mod making;
-mod opening;
-mod printing;
+mod line;
+mod output;
 mod real;
-mod running;
 mod script;
-mod serving;
 mod session;
+mod setup;
 #[cfg(test)]
 mod tests;
 mod top;

@@ -6,18 +6,55 @@ ghost use Rattle.gt_types.specs.declared.event.Event.{Event};
 ghost use Rattle.std.specs.Prelude.{IsTrue, List, None, Some, ◌<◌, ◌^◌, ◌↔◌, ◌≡◌};
 ghost use Rattle.transferd.specs.Endings.{read_from, written_to};
 ghost use Rattle.transferd.specs.Exits.{HasScriptCauses, exit_of_read, faults_of};
-ghost use Rattle.transferd.specs.MainTheorem.{Ran};
+ghost use Rattle.transferd.specs.MainTheorem.{DeskTheorem, Ran};
 ghost use Rattle.gt_world.specs.World.{world_on};
 
 use crate::exit::Exit;
-use crate::running::run_line;
+use crate::laws::lines_make_one_run;
+use crate::line::run_line;
 use crate::session::{Ended, Session, stop};
 use gt_desk::Desk;
 use gt_disk::Disk;
-use gt_script::{Line, SCRIPT_LIMIT, ScriptFault, read_script_line};
+use gt_machine::runs_go_on;
+use gt_script::{Line, SCRIPT_LIMIT, ScriptFault, lines_end_with_their_text, read_script_line};
+use gt_setup::Setup;
 use gt_streams::{Sink, Source};
 use gt_values::Moment;
+use gt_world::{acknowledged_events_stay_in_a_run, histories_of_a_run_are_sound};
 use std::alloc::Global;
+
+/// Opens the desk on the disk of its journal, by `Desk::open`, and runs the lines of a script on it, by `run_script`.
+pub fn serve_script<T: Source, K: Sink, D: Disk>(
+    alloc: Global,
+    setup: Setup,
+    disk: D,
+    script: &mut T,
+    out: &mut K,
+) -> Ended<D>
+    ensures theorem { DeskTheorem D.words (D.words.honest disk) result.exit setup disk result.disk
+        (read_from T.words script.old script.new) (written_to K.words out.old out.new) }
+    ensures causes { HasScriptCauses result.exit
+        (faults_of T.words script.old K.words out.old D.words disk)
+        (faults_of T.words script.new K.words out.new D.words result.disk) }
+    ensures same { IsSameDisk D.words disk result.disk }
+    ensures same_script { IsSameSource T.words script.old script.new }
+    ensures same_out { IsSameSink K.words out.old out.new }
+{
+    match Desk::open(alloc, setup, disk) {
+        Ok(desk) => {
+            // For the proof: each history of the run leads through sound states, and nothing acknowledged is lost.
+            runs_go_on();
+            lines_make_one_run();
+            histories_of_a_run_are_sound();
+            acknowledged_events_stay_in_a_run::<D>();
+            run_script(alloc, desk, script, out)
+        }
+        Err(refused) => Ended {
+            exit: Exit::of_opening(refused.fault),
+            disk: refused.disk,
+        },
+    }
+}
 
 // The exit where no line was read.
 fn exit_of_reading(fault: ScriptFault) -> Exit
@@ -37,9 +74,9 @@ fn is_last(line: Line) -> bool
     line.is_end()
 }
 
-/// Runs the lines of a script up to its end on a desk. Each is carried out, by `run_line` (`running.rt`), before the next is
-/// read.
-pub fn run_script<T: Source, K: Sink, D: Disk>(
+// Runs the lines of a script up to its end on a desk. Each is carried out, by `run_line` (`line.rt`), before the next is
+// read.
+fn run_script<T: Source, K: Sink, D: Disk>(
     alloc: Global,
     desk: Desk<D>,
     script: &mut T,
@@ -58,8 +95,10 @@ pub fn run_script<T: Source, K: Sink, D: Disk>(
     ensures same_script { IsSameSource T.words script.old script.new }
     ensures same_out { IsSameSink K.words out.old out.new }
 {
-    // For the proof: a crash before the first line leaves what stands for the ledger.
+    // For the proof: a crash before the first line leaves what stands for the ledger, and what stands behind some lines says
+    // which follows them.
     let _ = desk.state();
+    lines_end_with_their_text();
     let mut session = Session {
         desk,
         now: Moment::zero(),

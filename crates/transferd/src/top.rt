@@ -11,9 +11,9 @@ ghost use Rattle.transferd.specs.declared.exit.Exit.TheVariants.{Done, OutOfMemo
 
 use crate::exit::Exit;
 use crate::laws::{one_exit_where_nothing_fails, runs_without_faults_are_calm};
-use crate::opening::read_setup;
-use crate::serving::serve_script;
+use crate::script::serve_script;
 use crate::session::Ended;
+use crate::setup::read_setup;
 use crate::words::are_script_words;
 use gt_disk::Disk;
 use gt_machine::runs_go_on;
@@ -24,7 +24,7 @@ use std::rc::RcStr;
 /// Runs a script under a setup on the desk whose journal is on the disk, and writes what its lines print.
 ///
 /// The words are judged before anything is read, and are `script SETUP`. Then the setup is read, to its end or until it is
-/// too long, and the desk is opened, by `serve_script` (`serving.rt`). Then the script's lines are read one by one, and each
+/// too long, and the desk is opened, by `serve_script` (`script.rt`). Then the script's lines are read one by one, and each
 /// is carried out before the next is read. Nothing behind the `end` line is read.
 pub fn script_top<S: Source, T: Source, K: Sink, D: Disk>(
     alloc: Global,
@@ -37,8 +37,8 @@ pub fn script_top<S: Source, T: Source, K: Sink, D: Disk>(
     // The main theorem.
     ensures machine { is_script_form (texts_of words.now) ≡ true
         → MainTheorem D.words (D.words.honest disk.old) result
-        (read_from S.words setup.old setup.new)
-        disk.old disk.new (read_from T.words script.old script.new) (written_to K.words out.old out.new) }
+        (read_from S.words setup.old setup.new) disk.old disk.new
+        (read_from T.words script.old script.new) (written_to K.words out.old out.new) }
 
     // Which exit comes, and that only a fault of a device or want of memory takes its place; where no device fails, that
     // exit comes, or memory was wanted.

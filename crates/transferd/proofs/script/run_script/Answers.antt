@@ -1,10 +1,10 @@
 use Rattle.gt_disk.specs.Disk.{IsSameDisk}
 use Rattle.gt_script.specs.Reading.{BeginsNoLine, BeginsWith, Refuses, Stops}
 use Rattle.gt_script.specs.Script.{most_script_bytes}
+use Rattle.gt_script.specs.TextFacts.{full_script}
 use Rattle.gt_script.specs.declared.line.Line.TheVariants.{End}
 use Rattle.gt_script.specs.declared.line.ScriptFault.TheVariants.{Refused}
 use Rattle.gt_setup.specs.Setup.{Setup}
-use Rattle.gt_script.proofs.FrontLemmas.{full_script}
 use Rattle.gt_streams.specs.Streams.{IsSameSink, IsSameSource}
 use Rattle.std.proofs.Common.{Bool, Err, IsTrue, List, [], ap, arith, refl, subst, ◌++◌, ◌+◌, ◌∙◌, ◌≡◌, ◌≢◌, ◌≤◌, ℕ}
 use Rattle.transferd.proofs.EndingLemmas.{begun, carried, done, more, not_read, refuses, stopped}
@@ -45,7 +45,7 @@ returns-in-Err-clause-ran g c history runs same =
     let none : Refuses (l.ran + 1) (IsTrue script.told → BeginsNoLine setup l.taken script.after) fault = refuses (l.ran + 1) fault
     (λ none t. subst (λ (s : Setup). BeginsNoLine s l.taken script.after) opened (none (l.invariant.source.told ∙ t))) c.in-Err.ensures.refused in
     let stops : IsTrue script.told → Stops setup l.taken script.after after fault = λ t. subst (λ (s : Setup). Stops s l.taken script.after after fault) opened (c.in-Err.ensures.stopped (l.invariant.source.told ∙ t)).0 in
-    not_read w honest setup start first.disk l.ran l.session l.taken script out so_far after fault c.stop.result.exit c.stop.result.disk (c.stop.ensures.exit ∙ c.exit_of_reading.ensures) c.stop.ensures.disk l.invariant.fits none stops
+    not_read w honest setup start first.disk l.ran l.session l.taken script out so_far after (c.lines_end_with_their_text.ensures.none setup) (c.lines_end_with_their_text.ensures.last setup) fault c.stop.result.exit c.stop.result.disk (c.stop.ensures.exit ∙ c.exit_of_reading.ensures) c.stop.ensures.disk l.invariant.fits none stops
 
 pub returns-in-Err-run_line-clause-ran : goal.returns-in-Err-run_line-clause-ran
 returns-in-Err-run_line-clause-ran g c history runs same =
@@ -146,4 +146,4 @@ returns-clause-ran g c history runs same =
     let out : Stream = written_to g.K.Sink.words c.args.out.now l.out in
     let so_far = l.invariant.so_far history runs same in
     let full : most_script_bytes ≤ l.taken = omega arith in
-    not_read w honest setup start first.disk l.ran l.session l.taken script out so_far script.after (Refused (l.ran + 1)) c.stop-2.result.exit c.stop-2.result.disk c.stop-2.ensures.exit c.stop-2.ensures.disk l.invariant.fits (refl, λ t. full_script setup l.taken script.after full) (λ t. record { gone = []; whole = refl; unfinished = full_script setup l.taken [] full })
+    not_read w honest setup start first.disk l.ran l.session l.taken script out so_far script.after (c.lines_end_with_their_text.ensures.none setup) (c.lines_end_with_their_text.ensures.last setup) (Refused (l.ran + 1)) c.stop-2.result.exit c.stop-2.result.disk c.stop-2.ensures.exit c.stop-2.ensures.disk l.invariant.fits (refl, λ t. full_script setup l.taken script.after full) (λ t. record { gone = []; whole = refl; unfinished = full_script setup l.taken [] full })

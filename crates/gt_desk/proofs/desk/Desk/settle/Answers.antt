@@ -36,7 +36,7 @@ invariant_of-self-in-Some g c =
     let step : step_of i.setup i.state.machine change.event ≡ Some next.machine = c.commit.ensures i.setup pending.planned in
     let more = counted i.setup i.state.machine next.machine change.event (c.runs_are_sound.ensures i.setup) was.reached step in
     let settles = subst (λ s. Settles w j s n) c.in-Kept.is c.in_ok-settle.ensures.ok in
-    kept_consistent w i.setup i.state i.doubt j n was c.settle.ensures.same c.settle.ensures.images change is settles next step more c.take.new.self c.take.ensures.after
+    kept_consistent w i.setup i.state i.doubt j n was c.settle.ensures.same c.settle.ensures.images change is (c.record_text_reads_back.ensures change.event pending.recordable) settles next step more c.take.new.self c.take.ensures.after
 
 pub returns-in-Some-clause-ok : goal.returns-in-Some-clause-ok
 returns-in-Some-clause-ok g c =
@@ -52,7 +52,7 @@ returns-in-Some-clause-ok g c =
     let step : step_of i.setup i.state.machine change.event ≡ Some next.machine = c.commit.ensures i.setup pending.planned in
     let settles = subst (λ s. Settles w j s n) c.in-Kept.is c.in_ok-settle.ensures.ok in
     subst (λ v. HasSettled w v (desk_of i.setup next c.take.new.self n)) c.self.view_is
-    (kept_settled w i.setup i.state i.doubt j n was c.settle.ensures.same c.settle.ensures.images change is settles next step c.take.new.self c.take.ensures.after)
+    (kept_settled w i.setup i.state i.doubt j n was c.settle.ensures.same c.settle.ensures.images change is (c.record_text_reads_back.ensures change.event pending.recordable) settles next step c.take.new.self c.take.ensures.after)
 
 pub returns-in-Some-clause-any_moment : goal.returns-in-Some-clause-any_moment
 returns-in-Some-clause-any_moment g c honest =
@@ -100,4 +100,4 @@ returns-in-Some-clause-images g c =
     let more = counted i.setup i.state.machine next.machine change.event (c.runs_are_sound.ensures i.setup) was.reached step in
     let settles = subst (λ s. Settles w j s n) c.in-Kept.is c.in_ok-settle.ensures.ok in
     stands_now w i.setup next c.take.new.self n
-    (kept_consistent w i.setup i.state i.doubt j n was c.settle.ensures.same c.settle.ensures.images change is settles next step more c.take.new.self c.take.ensures.after)
+    (kept_consistent w i.setup i.state i.doubt j n was c.settle.ensures.same c.settle.ensures.images change is (c.record_text_reads_back.ensures change.event pending.recordable) settles next step more c.take.new.self c.take.ensures.after)
