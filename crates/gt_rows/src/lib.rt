@@ -1,5 +1,5 @@
 //! Tables of tests that cross the crates from the machine up to the desk: faults, crashes, restarts,
-//! damage and limits together.
+//! damage, limits, and a journal in a real file.
 //!
 //! There is nothing here but tests. A crate's own tests are proved beside the crate, and this one's once.
 #![tactic(auto)]
@@ -8,6 +8,8 @@
 mod damage;
 #[cfg(test)]
 mod faults;
+#[cfg(test)]
+mod files;
 #[cfg(test)]
 mod limits;
 #[cfg(test)]

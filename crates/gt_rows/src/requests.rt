@@ -4,7 +4,7 @@ ghost use Rattle.gt_types.specs.Command.{is_command};
 ghost use Rattle.std.specs.Prelude.{IfOk, IsTrue};
 
 use gt_desk::{Desk, DeskFault, OpenFault};
-use gt_disk::MemDisk;
+use gt_disk::Disk;
 use gt_records::decode;
 use gt_setup::Setup;
 use gt_types::{Command, Happening, Reply, ReplyCode};
@@ -52,11 +52,11 @@ pub fn id(last: u8) -> Id {
 }
 
 /// What an opening under this setup on the disk comes to.
-pub fn opened(
+pub fn opened<D: Disk + Drop>(
     alloc: Global,
     setup: &[u8],
-    disk: MemDisk,
-) -> Result<Result<Desk<MemDisk>, OpenFault>, Fail> {
+    disk: D,
+) -> Result<Result<Desk<D>, OpenFault>, Fail> {
     match Desk::open(alloc, Setup::read(alloc, setup)?, disk) {
         Ok(desk) => Ok(Ok(desk)),
         Err(refused) => Ok(Err(refused.fault)),
@@ -79,7 +79,7 @@ fn outcome_of(answer: Result<Reply, DeskFault>) -> Came {
 }
 
 /// A request for an identifier.
-pub fn issue(alloc: Global, desk: &mut Desk<MemDisk>) -> Result<Came, Fail> {
+pub fn issue<D: Disk + Drop>(alloc: Global, desk: &mut Desk<D>) -> Result<Came, Fail> {
     let ann = id(0xa1);
     if desk.setup().who(&ann).is_none() {
         return Err("the identity is unknown")?;
@@ -110,12 +110,16 @@ fn asked(alloc: Global, count: u32, text: &[u8]) -> Result<Command, Fail>
 }
 
 /// The request of that submission.
-pub fn submit(alloc: Global, desk: &mut Desk<MemDisk>) -> Result<Came, Fail> {
+pub fn submit<D: Disk + Drop>(alloc: Global, desk: &mut Desk<D>) -> Result<Came, Fail> {
     submit_text(alloc, desk, SUBMITTED)
 }
 
 /// The request of the submission of this text.
-pub fn submit_text(alloc: Global, desk: &mut Desk<MemDisk>, text: &[u8]) -> Result<Came, Fail> {
+pub fn submit_text<D: Disk + Drop>(
+    alloc: Global,
+    desk: &mut Desk<D>,
+    text: &[u8],
+) -> Result<Came, Fail> {
     let ann = id(0xa1);
     if desk.setup().who(&ann).is_none() {
         return Err("the identity is unknown")?;

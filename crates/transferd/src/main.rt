@@ -9,7 +9,6 @@ mod exit;
 mod laws;
 mod line;
 mod output;
-mod real;
 mod script;
 mod session;
 mod setup;
@@ -20,12 +19,13 @@ mod words;
 
 use exit::Exit;
 use gt_disk::MemDisk;
+use gt_real::{StdSink, StdSource};
 use gt_streams::MemSource;
-use real::{ReaderSource, WriterSink};
 use std::alloc::{AllocError, Global};
 use std::env::{self, Env};
-use std::fs::{self, Files};
-use std::io::{Eprint, ErrorKind, Read, Write};
+use std::fs::{self, File, Files};
+use std::io::{Eprint, ErrorKind, Read};
+use std::os::fd::AsRawFd;
 use std::process::ExitCode;
 use std::rc::RcStr;
 use top::script_top;
@@ -51,18 +51,27 @@ fn command_words(rt: &(impl Env + Alloc<A = Global>)) -> Result<Vec<RcStr>, Allo
 
 // The top call over the real objects: the setup is the file that the words name. Where the words are in another form it is
 // never read. The journal is in memory, so it ends with the process.
-fn run<F: Files + AllocGlobal + Eprint, R: Read + Drop, W: Write + Drop>(
+fn run<F: Files<File = File> + AllocGlobal + Eprint, R: Read + AsRawFd + Drop, W: AsRawFd + Drop>(
     rt: &F,
     words: &[RcStr],
     input: R,
     output: W,
 ) -> Exit {
+    match run_over(rt, words, input, output) {
+        Ok(exit) => exit,
+        Err(AllocError) => Exit::OutOfMemory,
+    }
+}
+
+fn run_over<
+    F: Files<File = File> + AllocGlobal + Eprint,
+    R: Read + AsRawFd + Drop,
+    W: AsRawFd + Drop,
+>(rt: &F, words: &[RcStr], input: R, output: W) -> Result<Exit, AllocError> {
     let alloc = rt.alloc();
-    let mut input = ReaderSource::new(input);
-    let mut output = WriterSink::new(output);
-    let Ok(mut disk) = MemDisk::new(alloc, Vec::new(alloc), Vec::new(alloc)) else {
-        return Exit::OutOfMemory;
-    };
+    let mut input = StdSource::new(alloc, input, "standard input")?;
+    let mut output = StdSink::new(alloc, output, "standard output")?;
+    let mut disk = MemDisk::new(alloc, Vec::new(alloc), Vec::new(alloc))?;
     match words {
         [_, setup] if are_script_words(words) => match fs::open(rt, setup.as_str()) {
             Ok(file) => {
