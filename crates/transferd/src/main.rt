@@ -56,26 +56,15 @@ fn run<F: Files<File = File> + AllocGlobal + Eprint, R: Read + AsRawFd + Drop, W
     words: &[RcStr],
     input: R,
     output: W,
-) -> Exit {
-    match run_over(rt, words, input, output) {
-        Ok(exit) => exit,
-        Err(AllocError) => Exit::OutOfMemory,
-    }
-}
-
-fn run_over<
-    F: Files<File = File> + AllocGlobal + Eprint,
-    R: Read + AsRawFd + Drop,
-    W: AsRawFd + Drop,
->(rt: &F, words: &[RcStr], input: R, output: W) -> Result<Exit, AllocError> {
+) -> Result<Exit, AllocError> {
     let alloc = rt.alloc();
     let mut input = StdSource::new(alloc, input, "standard input")?;
     let mut output = StdSink::new(alloc, output, "standard output")?;
     let mut disk = MemDisk::new(alloc, Vec::new(alloc), Vec::new(alloc))?;
-    match words {
+    let exit = match words {
         [_, setup] if are_script_words(words) => match fs::open(rt, setup.as_str()) {
             Ok(file) => {
-                let mut setup = ReaderSource::new(file);
+                let mut setup = StdSource::new(alloc, file, "the setup file")?;
                 script_top(alloc, words, &mut setup, &mut input, &mut output, &mut disk)
             }
             Err(error) => {
@@ -88,7 +77,8 @@ fn run_over<
             let mut setup = MemSource::new(Vec::new(alloc), 1, Vec::new(alloc));
             script_top(alloc, words, &mut setup, &mut input, &mut output, &mut disk)
         }
-    }
+    };
+    Ok(exit)
 }
 
 fn not_opened(kind: ErrorKind) -> Exit {
@@ -124,7 +114,7 @@ fn tell<R: Eprint>(rt: &R, exit: &Exit) {
 
 fn main(rt: HostRuntime) -> ExitCode {
     let exit = match command_words(&rt) {
-        Ok(words) => run(&rt, &words, rt.stdin(), rt.stdout()),
+        Ok(words) => run(&rt, &words, rt.stdin(), rt.stdout()).unwrap_or(Exit::OutOfMemory),
         Err(AllocError) => Exit::OutOfMemory,
     };
     tell(&rt, &exit);
