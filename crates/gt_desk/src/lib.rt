@@ -7,7 +7,7 @@
 mod desk;
 mod fault;
 mod laws;
-mod record;
+mod record_plan;
 mod replay;
 mod steps;
 

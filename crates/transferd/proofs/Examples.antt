@@ -91,9 +91,11 @@ transfer_to name = record {
 -- a submission, and one with the same identifier and another document, which is told of the first one's task
 pub submission_and_repeat :
     calm_script desk [] (Now 100 ∷ Send ann (AskTransfer (id 178) (transfer_to (101 ∷ []))) ∷ Send ann (AskTransfer (id 178) (transfer_to (102 ∷ []))) ∷ End ∷ [])
-    ≡ (reply_line desk (Submitted false true (id 178) 1) ++ (reply_line desk (Submitted false false (id 178) 1)
-    ++ (codes "end 1 1" ++ 10 ∷ (codes "task 1 TRANSFER ACTIVE 1 1 0 0 0 0 0 0 0 0" ++ 10 ∷ []))),
-    (record { moment = 100; what = SubmitTransfer ann (id 178) (transfer_to (101 ∷ [])) }) ∷ [])
+    ≡ (
+      reply_line desk (Submitted false true (id 178) 1) ++ (reply_line desk (Submitted false false (id 178) 1)
+          ++ (codes "end 1 1" ++ 10 ∷ (codes "task 1 TRANSFER ACTIVE 1 1 0 0 0 0 0 0 0 0" ++ 10 ∷ []))),
+      (record { moment = 100; what = SubmitTransfer ann (id 178) (transfer_to (101 ∷ [])) }) ∷ [],
+    )
 unfolding digits is_utf8 chars encode
 submission_and_repeat = refl
 
