@@ -7,7 +7,7 @@
 mod desk;
 mod fault;
 mod laws;
-mod record_plan;
+mod record;
 mod replay;
 mod steps;
 

@@ -13,7 +13,7 @@ ghost use Rattle.gt_types.specs.Command.{is_command};
 ghost use Rattle.gt_types.specs.Event.{is_recordable, recordable_collections};
 ghost use Rattle.gt_types.specs.Reply.{is_printable};
 
-use crate::record_plan::plan_record;
+use crate::record::plan_record;
 use crate::{Desk, DeskFault};
 use gt_disk::Disk;
 use gt_journal::{JournalFault, Settled};
