@@ -1,5 +1,4 @@
-//! Tables of tests that cross the crates from the machine up to the desk: faults, crashes, restarts,
-//! damage and limits together.
+//! Tables of tests that cross the crates from the machine up to the desk: faults, crashes, restarts and damage together.
 //!
 //! There is nothing here but tests. A crate's own tests are proved beside the crate, and this one's once.
 #![tactic(auto)]
@@ -8,8 +7,6 @@
 mod damage;
 #[cfg(test)]
 mod faults;
-#[cfg(test)]
-mod limits;
 #[cfg(test)]
 mod requests;
 #[cfg(test)]
