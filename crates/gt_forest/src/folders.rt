@@ -16,8 +16,8 @@ pub(crate) type Folders = BTreeMap<Vec<Name>, Contents>;
 
 /// The entries of the folder of this path, if it is there.
 pub(crate) fn contents<'a>(folders: &'a Folders, path: &[Name]) -> Option<&'a Contents>
-    ensures { option_map (λ contents. contents.now.entries) result ≡ contents_of (folder_rows folders.now)
-        path.now }
+    ensures { option_map (λ contents. contents.now.entries) result
+        ≡ contents_of (folder_rows folders.now) path.now }
 {
     folders.get(path)
 }

@@ -177,8 +177,8 @@ impl MemTree {
         bytes: &[u8],
         is_corrupt: bool,
     ) -> Result<(), TreeFault>
-        ensures answer { Appends (tree_of self.old) key (not is_corrupt) bytes.now (tree_of self.new)
-            (tree_of self.new ≡ tree_of self.old) result }
+        ensures answer { Appends (tree_of self.old) key (not is_corrupt) bytes.now
+            (tree_of self.new) (tree_of self.new ≡ tree_of self.old) result }
         ensures stored { OnOk result ((tree_of self.new).stages key ≡ option_map
             (λ old. old ++ stored is_corrupt bytes.now) ((tree_of self.old).stages key)) }
         ensures others { KeepsOthers None (Some key) (tree_of self.old) (tree_of self.new) }
@@ -236,8 +236,8 @@ impl MemTree {
 
     /// Takes a staging file away.
     pub(crate) fn drop_stage(&mut self, key: u64) -> Result<(), TreeFault>
-        ensures answer { Drops (tree_of self.old) key (tree_of self.new) (tree_of self.new ≡ tree_of self.old)
-            result }
+        ensures answer { Drops (tree_of self.old) key (tree_of self.new)
+            (tree_of self.new ≡ tree_of self.old) result }
         ensures others { KeepsOthers None (Some key) (tree_of self.old) (tree_of self.new) }
         ensures fault { IfErr result
             (λ fault. IsTrue (may_answer fault && not (is_failure fault))) }

@@ -14,6 +14,8 @@ mod parts;
 mod place;
 mod read;
 mod reply;
+#[cfg(test)]
+mod tests;
 
 pub use fault::{HttpFault, HttpWriteFault};
 pub use laws::one_first_message;

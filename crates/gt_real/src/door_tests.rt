@@ -10,7 +10,7 @@ use std::alloc::Global;
 use std::io::{self, Read, Write};
 use std::net::{Ipv4Addr, Net, Shutdown, SocketAddr, SocketAddrV4, TcpListener, TcpStream};
 use std::test::Fail;
-use std::thread::join;
+use std::thread::{Threads, join};
 
 const REPLY: &[u8] = b"what was asked for\n";
 
@@ -70,25 +70,35 @@ fn never_read<R: Net<Listener = TcpListener, Stream = TcpStream>>(
     Ok(5)
 }
 
+// A new door serves one link, to a peer that sends so many bytes and reads its reply to the end, or goes away with nothing
+// read where it sends none. What each side counted, and the door's faults.
+fn meet<R: Threads + Net<Listener = TcpListener, Stream = TcpStream> + Alloc<A = Global> + Sync>(
+    rt: &R,
+    bytes: usize,
+) -> Result<(Option<usize>, Option<usize>, u64), Fail> {
+    let alloc = rt.alloc();
+    let mut door = TcpDoor::bind(rt, 0)?;
+    let port = door.port()?;
+    let (served, asked) = join(
+        rt,
+        || serve(alloc, &mut door),
+        || {
+            if bytes == 0 {
+                never_read(rt, port)
+            } else {
+                ask(rt, alloc, port, bytes)
+            }
+        },
+    );
+    Ok((served.ok(), asked.ok(), door.faults()))
+}
+
 #[test]
 fn replies_reach_their_peer(rt: HostRuntime) -> Result<(), Fail> {
-    let alloc = rt.alloc();
-    let mut door = TcpDoor::bind(&rt, 0)?;
-    let port = door.port()?;
-    assert!(rt; port > 0);
-    for bytes in [5, LONG] {
-        let (served, asked) = join(
-            &rt,
-            || serve(alloc, &mut door),
-            || ask(&rt, alloc, port, bytes),
-        );
-        assert_eq!(rt; served, Ok(5));
-        assert_eq!(rt; asked?, REPLY.len());
-    }
-    let (served, asked) = join(&rt, || serve(alloc, &mut door), || never_read(&rt, port));
-    assert_eq!(rt; served, Ok(5));
-    assert_eq!(rt; asked?, 5);
-    assert_eq!(rt; door.faults(), 0);
+    let whole = Some(REPLY.len());
+    assert_eq!(rt; meet(&rt, 5)?, (Some(5), whole, 0));
+    assert_eq!(rt; meet(&rt, LONG)?, (Some(5), whole, 0));
+    assert_eq!(rt; meet(&rt, 0)?, (Some(5), Some(5), 0));
     Ok(())
 }
 

@@ -1,11 +1,11 @@
-pub mod Decoded
-pub mod EventLaws
-pub mod FieldLaws
-pub mod FormLaws
-pub mod Laws
-pub mod KeepLemmas
-pub mod LimitLaws
-pub mod Loop
-pub mod SpecLaws
-pub mod SpecParts
-pub mod Utf8
+mod Decoded
+mod EventLaws
+mod FieldLaws
+mod FormLaws
+mod Laws
+mod KeepLemmas
+mod LimitLaws
+mod Loop
+mod SpecLaws
+mod SpecParts
+mod Utf8

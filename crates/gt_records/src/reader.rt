@@ -54,7 +54,9 @@ impl<'a> Reader<'a> {
     /// So many bytes.
     #[tactic(auto, unfolding(crate::specs::Reading::bytes_at))]
     pub(crate) fn bytes(&mut self, count: usize) -> Result<&'a [u8], DecodeFault>
-        ensures { MatchResult result (λ bytes. bytes_at count self.old ≡ Some (bytes.now, self.new)) (λ fault. Fails fault (bytes_at count self.old)) }
+        ensures { MatchResult result
+            (λ bytes. bytes_at count self.old ≡ Some (bytes.now, self.new))
+            (λ fault. Fails fault (bytes_at count self.old)) }
     {
         if self.left.len() < count {
             return Err(DecodeFault::NotRecord);
@@ -67,7 +69,9 @@ impl<'a> Reader<'a> {
     /// So many bytes of text.
     #[tactic(auto, using(crate::proofs::Utf8::utf8_read, crate::proofs::Utf8::utf8_refused, crate::proofs::Utf8::utf8_short))]
     pub(crate) fn text(&mut self, count: usize) -> Result<&'a str, DecodeFault>
-        ensures { MatchResult result (λ text. utf8_at count self.old ≡ Some (text.now, self.new)) (λ fault. Fails fault (utf8_at count self.old)) }
+        ensures { MatchResult result
+            (λ text. utf8_at count self.old ≡ Some (text.now, self.new))
+            (λ fault. Fails fault (utf8_at count self.old)) }
     {
         match str::from_utf8(self.bytes(count)?) {
             Ok(text) => Ok(text),

@@ -1,5 +1,5 @@
-//! Tables of tests that cross the crates from the machine up to the desk: faults, crashes, restarts,
-//! damage, limits, and a journal in a real file.
+//! Tables of tests that cross the crates from the machine up to the desk: faults, crashes, restarts and damage together,
+//! and a journal in a real file.
 //!
 //! There is nothing here but tests. A crate's own tests are proved beside the crate, and this one's once.
 #![tactic(auto)]
@@ -10,8 +10,6 @@ mod damage;
 mod faults;
 #[cfg(test)]
 mod files;
-#[cfg(test)]
-mod limits;
 #[cfg(test)]
 mod requests;
 #[cfg(test)]

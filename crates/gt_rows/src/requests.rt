@@ -7,7 +7,7 @@ use gt_desk::{Desk, DeskFault, OpenFault};
 use gt_disk::Disk;
 use gt_records::decode;
 use gt_setup::Setup;
-use gt_types::{Command, Happening, Reply, ReplyCode};
+use gt_types::{Command, Happening, Reply};
 use gt_values::{Id, Moment};
 use std::alloc::Global;
 use std::test::Fail;
@@ -42,7 +42,6 @@ pub enum Came {
     Identifier,
     NewTask,
     SameTask,
-    Full,
     Failed,
     Other,
 }
@@ -68,11 +67,6 @@ fn outcome_of(answer: Result<Reply, DeskFault>) -> Came {
         Ok(Reply::Identifier { .. }) => Came::Identifier,
         Ok(Reply::Submitted { is_new: true, .. }) => Came::NewTask,
         Ok(Reply::Submitted { is_new: false, .. }) => Came::SameTask,
-        Ok(
-            Reply::Refused {
-                code: ReplyCode::LimitReached,
-            },
-        ) => Came::Full,
         Err(DeskFault::JournalFault) => Came::Failed,
         _ => Came::Other,
     }
@@ -88,12 +82,12 @@ pub fn issue<D: Disk + Drop>(alloc: Global, desk: &mut Desk<D>) -> Result<Came, 
     Ok(outcome_of(desk.answer(alloc, &ann, &Command::IssueId, now)))
 }
 
-// The submission of this text as a request to a desk of so many collections.
-fn asked(alloc: Global, count: u32, text: &[u8]) -> Result<Command, Fail>
+// The submission as a request to a desk of so many collections.
+fn asked(alloc: Global, count: u32) -> Result<Command, Fail>
     ensures within { IfOk result (λ command. IsTrue (is_command count command)) }
     ensures answered { IfOk result (λ command. IsTrue (is_answered command)) }
 {
-    let event = decode(alloc, text)?;
+    let event = decode(alloc, SUBMITTED)?;
     match event.what {
         Happening::SubmitTransfer {
             submission,
@@ -111,20 +105,11 @@ fn asked(alloc: Global, count: u32, text: &[u8]) -> Result<Command, Fail>
 
 /// The request of that submission.
 pub fn submit<D: Disk + Drop>(alloc: Global, desk: &mut Desk<D>) -> Result<Came, Fail> {
-    submit_text(alloc, desk, SUBMITTED)
-}
-
-/// The request of the submission of this text.
-pub fn submit_text<D: Disk + Drop>(
-    alloc: Global,
-    desk: &mut Desk<D>,
-    text: &[u8],
-) -> Result<Came, Fail> {
     let ann = id(0xa1);
     if desk.setup().who(&ann).is_none() {
         return Err("the identity is unknown")?;
     }
-    let command = asked(alloc, desk.setup().collections(), text)?;
+    let command = asked(alloc, desk.setup().collections())?;
     let now = Moment::of(100).ok_or("a moment")?;
     Ok(outcome_of(desk.answer(alloc, &ann, &command, now)))
 }

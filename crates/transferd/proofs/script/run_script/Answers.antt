@@ -109,7 +109,7 @@ loop-taken-preserved g c = record {
   };
   setup = c.in-Ok-run_line.ensures.setup ∙ c.loop-taken.invariant.setup;
   number = omega (arith, c.loop-taken.invariant.number, c.in-Ok.ensures.ok.1);
-  fits = omega (arith, c.in-Ok.ensures.ok.1);
+  fits = omega (arith, c.in-Ok.ensures.ok.1, c.in-Ok.ensures.ok.2);
   so_far = λ history runs same.
       let w = g.D.Disk.words in
       let l = c.loop-taken in
