@@ -2,14 +2,16 @@ ghost use Rattle.std.specs.Prelude.{◌≡◌, ◌≤◌};
 ghost use Rattle.gt_causes.specs.Causes.{Rose};
 ghost use Rattle.gt_causes.specs.Counts.{counted};
 
+use crate::spot::Spot;
 use gt_causes::Failed;
+use std::fmt::Display;
 use std::io::{self, Cursor, Write};
 
 // So many faults of a device are said.
 const SAID: u64 = 100;
 
-// The longest text of a fault, in bytes: a path has 4,096.
-const ROOM: usize = 5_000;
+// The longest text of a fault, in bytes: a path of the system has 4,096, and so has one below it.
+const ROOM: usize = 10_000;
 
 /// The faults of a device: their count, and the name by which a person knows the device.
 #[derive(Drop)]
@@ -38,7 +40,20 @@ impl Faults {
         ensures cause { Rose self.old.count self.new.count }
     {
         if self.count < SAID {
-            say_fault(&self.name, operation, reason);
+            say_fault(self.name.as_str(), operation, reason);
+        }
+        self.count = self.count.saturating_add(1);
+        Failed
+    }
+
+    /// Counts a fault that is about a part of the device, in the same way.
+    pub(crate) fn add_at(&mut self, spot: Spot<'_>, operation: &str, reason: io::Error) -> Failed
+        ensures value { self.new.count ≡ counted self.old.count }
+        ensures same { self.old.count ≤ self.new.count }
+        ensures cause { Rose self.old.count self.new.count }
+    {
+        if self.count < SAID {
+            say_fault(spot, operation, reason);
         }
         self.count = self.count.saturating_add(1);
         Failed
@@ -46,7 +61,7 @@ impl Faults {
 }
 
 // Says a fault in one write, so that two devices don't mix their lines. That standard error fails is let pass.
-fn say_fault(name: &str, operation: &str, reason: io::Error) {
+fn say_fault<N: Display + Drop>(name: N, operation: &str, reason: io::Error) {
     let mut line = Cursor::new([0u8; ROOM]);
     let _ = write_fault(&mut line, name, operation, reason);
     let length = (line.position() as usize).min(ROOM);
@@ -55,9 +70,9 @@ fn say_fault(name: &str, operation: &str, reason: io::Error) {
 }
 
 /// The line that says a fault: the device, the operation, and the system's reason.
-pub(crate) fn write_fault<W: Write>(
+pub(crate) fn write_fault<W: Write, N: Display + Drop>(
     to: &mut W,
-    name: &str,
+    name: N,
     operation: &str,
     reason: io::Error,
 ) -> io::Result<()> {
