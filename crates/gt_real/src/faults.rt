@@ -66,7 +66,7 @@ fn say_fault<N: Display + Drop>(name: N, operation: &str, reason: io::Error) {
     let _ = write_fault(&mut line, name, operation, reason);
     let length = (line.position() as usize).min(ROOM);
     let text = line.into_inner();
-    let _ = os::write_no_sigpipe(libc::STDERR_FILENO, &text[..length]);
+    let _ = libc::write(libc::STDERR_FILENO, &text[..length]);
 }
 
 /// The line that says a fault: the device, the operation, and the system's reason.

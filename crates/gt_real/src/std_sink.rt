@@ -83,7 +83,7 @@ fn write_once(fd: i32, from: &[u8]) -> io::Result<usize>
     if from.is_empty() {
         return Ok(0);
     }
-    let wrote = os::write_no_sigpipe(fd, from);
+    let wrote = libc::write(fd, from);
     if wrote < 0 {
         return Err(io::Error::from_raw_os_error(os::errno()));
     }
