@@ -146,3 +146,46 @@ fn least_item_in_conflict(rt: HostRuntime) -> Result<(), Fail> {
     assert_eq!(rt; claims.conflict(&asked, 0, 1), None);
     Ok(())
 }
+
+const CLAIMED: [(u64, Row); 3] = [
+    (9, Transfer(0, "/a", 1, "/x")),
+    (4, Erase(0, 1, "/x/y")),
+    (6, RemoveFolder(0, 1, "/d")),
+];
+
+// The collection, the path, and the least item that reads or writes a path there that overlaps with it.
+const USERS: [(u32, &str, Option<u64>); 9] = [
+    (0, "/a/b", Some(9)),
+    (0, "/", Some(9)),
+    (0, "/ab", None),
+    (0, "/x", None),
+    (1, "/x", Some(4)),
+    (1, "/x/z", Some(9)),
+    (1, "/d/e", Some(6)),
+    (1, "/a", None),
+    (2, "/a", None),
+];
+
+// Claims the item.
+fn put(claims: &mut Claims, item: u64, claim: Claim) -> Result<(), Fail> {
+    claims.reserve(1)?;
+    claims.put(item, claim);
+    Ok(())
+}
+
+fn user(alloc: Global, collection: u32, at: &str) -> Result<Option<u64>, Fail> {
+    let mut claims = Claims::new(alloc);
+    for (item, row) in CLAIMED {
+        put(&mut claims, item, claim(alloc, row)?)?;
+    }
+    Ok(claims.user_of(collection, &path(alloc, at)?))
+}
+
+#[test]
+fn least_user_of_a_path(rt: HostRuntime) -> Result<(), Fail> {
+    for (collection, at, want) in USERS {
+        let user = user(rt.alloc(), collection, at)?;
+        assert_eq!(rt; user, want, "{at} of {collection}");
+    }
+    Ok(())
+}
