@@ -1,6 +1,6 @@
-use Rattle.gt_real.proofs.listing.page.Given as goal
+use Rattle.gt_folder_forest.proofs.listing.page.Given as goal
 use Rattle.gt_forest.specs.Listing.{names_of}
-use Rattle.gt_real.proofs.PageLemmas.{IsRow}
+use Rattle.gt_folder_forest.proofs.PageLemmas.{IsRow}
 use Rattle.std.proofs.Common.{length, option_copied, ◌++◌, ◌≤◌}
 use Rattle.std.specs.Map.{keys_of}
 

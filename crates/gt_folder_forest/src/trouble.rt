@@ -3,8 +3,8 @@ ghost use Rattle.std.specs.Prelude.{IsTrue, ◌≡◌, ◌≤◌};
 ghost use Rattle.gt_causes.specs.Causes.{Rose};
 ghost use Rattle.gt_forest.specs.Answers.{may_answer, may_answer_emptying, may_answer_opening, may_answer_stat, may_answer_taking};
 
-use crate::faults::Faults;
 use crate::spot::Spot;
+use gt_faults::Faults;
 use gt_forest::TreeFault;
 use std::alloc::{AllocError, AllocFailed};
 use std::io;
@@ -71,8 +71,8 @@ fn reason(trouble: Trouble) -> io::Error {
 // Counts and says a trouble that its call has no other answer for.
 fn fail(faults: &mut Faults, spot: Spot<'_>, operation: &str, trouble: Trouble) -> TreeFault
     ensures value { result ≡ TreeFault.Fault }
-    ensures cause { Rose faults.old.count faults.new.count }
-    ensures same { faults.old.count ≤ faults.new.count }
+    ensures cause { Rose faults.old faults.new }
+    ensures same { faults.old ≤ faults.new }
 {
     faults.add_at(spot, operation, reason(trouble));
     TreeFault::Fault
@@ -86,8 +86,8 @@ pub(crate) fn answer(
     trouble: Trouble,
 ) -> TreeFault
     ensures fault { IsTrue (may_answer result) }
-    ensures cause { result ≡ TreeFault.Fault → Rose faults.old.count faults.new.count }
-    ensures same { faults.old.count ≤ faults.new.count }
+    ensures cause { result ≡ TreeFault.Fault → Rose faults.old faults.new }
+    ensures same { faults.old ≤ faults.new }
 {
     match trouble {
         Trouble::NotFound => TreeFault::NotFound,
@@ -105,8 +105,8 @@ pub(crate) fn answer_taking(
     trouble: Trouble,
 ) -> TreeFault
     ensures fault { IsTrue (may_answer_taking result) }
-    ensures cause { result ≡ TreeFault.Fault → Rose faults.old.count faults.new.count }
-    ensures same { faults.old.count ≤ faults.new.count }
+    ensures cause { result ≡ TreeFault.Fault → Rose faults.old faults.new }
+    ensures same { faults.old ≤ faults.new }
 {
     match trouble {
         Trouble::OutOfMemory => TreeFault::OutOfMemory,
@@ -122,8 +122,8 @@ pub(crate) fn answer_stat(
     trouble: Trouble,
 ) -> TreeFault
     ensures fault { IsTrue (may_answer_stat result) }
-    ensures cause { result ≡ TreeFault.Fault → Rose faults.old.count faults.new.count }
-    ensures same { faults.old.count ≤ faults.new.count }
+    ensures cause { result ≡ TreeFault.Fault → Rose faults.old faults.new }
+    ensures same { faults.old ≤ faults.new }
 {
     match trouble {
         Trouble::NotFound => TreeFault::NotFound,
@@ -140,8 +140,8 @@ pub(crate) fn answer_opening(
     trouble: Trouble,
 ) -> TreeFault
     ensures fault { IsTrue (may_answer_opening result) }
-    ensures cause { result ≡ TreeFault.Fault → Rose faults.old.count faults.new.count }
-    ensures same { faults.old.count ≤ faults.new.count }
+    ensures cause { result ≡ TreeFault.Fault → Rose faults.old faults.new }
+    ensures same { faults.old ≤ faults.new }
 {
     match trouble {
         Trouble::OutOfMemory => TreeFault::OutOfMemory,
@@ -157,8 +157,8 @@ pub(crate) fn answer_emptying(
     trouble: Trouble,
 ) -> TreeFault
     ensures fault { IsTrue (may_answer_emptying result) }
-    ensures cause { result ≡ TreeFault.Fault → Rose faults.old.count faults.new.count }
-    ensures same { faults.old.count ≤ faults.new.count }
+    ensures cause { result ≡ TreeFault.Fault → Rose faults.old faults.new }
+    ensures same { faults.old ≤ faults.new }
 {
     match trouble {
         Trouble::NotEmpty => TreeFault::NotEmpty,

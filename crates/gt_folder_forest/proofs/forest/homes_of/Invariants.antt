@@ -1,4 +1,4 @@
-use Rattle.gt_real.proofs.forest.homes_of.Given as goal
+use Rattle.gt_folder_forest.proofs.forest.homes_of.Given as goal
 use Rattle.std.proofs.Common.{length, ◌≡◌}
 
 -- one for each collection so far

@@ -3,9 +3,8 @@ ghost use Rattle.std.specs.Prelude.{IfErr, IfOk, IsErrOf, IsTrue, length, ◌<�
 ghost use Rattle.gt_causes.specs.Causes.{Rose};
 ghost use Rattle.gt_forest.specs.Answers.{may_answer_taking};
 ghost use Rattle.gt_forest.specs.Words.{IsSameForest, untold_laws};
-ghost use Rattle.gt_real.specs.Forest.{counts_of};
+ghost use Rattle.gt_folder_forest.specs.Forest.{counts_of};
 
-use crate::faults::Faults;
 use crate::leftovers::Cleared;
 use crate::spot::Spot;
 use crate::trail::Trail;
@@ -13,6 +12,7 @@ use crate::trees::{Home, Trees};
 use crate::trouble::{
     Trouble, answer, answer_emptying, answer_opening, answer_stat, answer_taking,
 };
+use gt_faults::Faults;
 use gt_folders::{Folders, SystemFolders};
 use gt_forest::{Forest, TreeFault};
 use gt_paths::{Name, Path};
@@ -20,6 +20,7 @@ use gt_types::{Entry, Stat};
 use gt_values::{Id, Moment};
 use std::alloc::{AllocError, Global};
 use std::marker::Model;
+use std::thread::{Threads, join};
 
 /// A forest in folders of the system: the collection of an identifier has the folder of that name under a root.
 ///
@@ -34,13 +35,13 @@ pub struct DirForest<F: Folders + Drop> {
 }
 
 impl<F: Folders + Drop> Model for DirForest<F> {
-    ghost use Rattle.gt_real.specs.Forest.{DirCounts};
+    ghost use Rattle.gt_folder_forest.specs.Forest.{DirCounts};
     ghost use Rattle.std.specs.Prelude.{length, ◌<◌, ◌^◌};
 
     ghost Value = { DirCounts };
 
     ghost view = { λ d. record {
-      faults = d.faults.count;
+      faults = d.faults;
       calls = d.calls;
       collections = length d.homes.items;
     } };
@@ -303,4 +304,13 @@ impl<F: Folders + Drop> Forest for DirForest<F> {
             }
         }
     }
+}
+
+/// For the proof: a forest that a thread comes to own crosses to it, and back.
+pub fn send_forest<R: Threads>(
+    rt: &R,
+    forest: DirForest<SystemFolders>,
+) -> DirForest<SystemFolders> {
+    let (forest, ()) = join(rt, move || forest, || ());
+    forest
 }

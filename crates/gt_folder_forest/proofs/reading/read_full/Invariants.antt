@@ -1,4 +1,4 @@
-use Rattle.gt_real.proofs.reading.read_full.Given as goal
+use Rattle.gt_folder_forest.proofs.reading.read_full.Given as goal
 use Rattle.std.proofs.Common.{length, ◌-◌, ◌≤◌}
 
 -- no more was read than there is room for
