@@ -16,7 +16,7 @@ use std::test::Fail;
 use std::thread::join;
 use std::{env, fs, process};
 
-const FIRST: &str = "00000001-0002-8000-8000-000000000001";
+pub(crate) const FIRST: &str = "00000001-0002-8000-8000-000000000001";
 
 const SECOND: &str = "00000001-0002-8000-8000-000000000002";
 
@@ -25,7 +25,7 @@ const LONG: &str = "123456789012345678901234567890123456789012345678901234567890
 
 // A new folder for a test of this process, with one for the first collection. What the second one has is in `aside`, to
 // which a link leads.
-fn root_for(rt: &HostRuntime, test: &str) -> Result<String, Fail> {
+pub(crate) fn root_for(rt: &HostRuntime, test: &str) -> Result<String, Fail> {
     let folder = env::temp_dir(rt)?;
     let folder = folder.as_str();
     let number = process::id(rt.process());
@@ -37,18 +37,21 @@ fn root_for(rt: &HostRuntime, test: &str) -> Result<String, Fail> {
     Ok(root)
 }
 
-fn at(rt: &HostRuntime, root: &str, name: &str) -> Result<String, AllocError> {
+pub(crate) fn at(rt: &HostRuntime, root: &str, name: &str) -> Result<String, AllocError> {
     format!(in rt.alloc(); "{root}/{name}")
 }
 
-fn forest_at(rt: &HostRuntime, root: &str) -> Result<DirForest<SystemFolders>, AllocError>
+pub(crate) fn forest_at(
+    rt: &HostRuntime,
+    root: &str,
+) -> Result<DirForest<SystemFolders>, AllocError>
     ensures { IfOk result (λ forest. forest.collections ≡ 2) }
 {
     let ids = [Id::made(1, 2, 1), Id::made(1, 2, 2)];
     DirForest::new(HostRuntime::clone(rt)?, root, &ids)
 }
 
-fn path(alloc: Global, text: &str) -> Result<Path, PathFault> {
+pub(crate) fn path(alloc: Global, text: &str) -> Result<Path, PathFault> {
     Path::read(alloc, text, &Path::root(alloc))
 }
 
@@ -71,7 +74,8 @@ fn suite_over_folders(rt: HostRuntime) -> Result<(), Fail> {
 fn what_is_told_lasts(rt: HostRuntime) -> Result<(), Fail> {
     let alloc = rt.alloc();
     let root = root_for(&rt, "lasting")?;
-    let folders = StrictFolders::new(alloc, SystemFolders::new(HostRuntime::clone(&rt)?)?);
+    let folders = SystemFolders::new(HostRuntime::clone(&rt)?)?;
+    let folders = StrictFolders::new(alloc, folders, 0);
     let ids = [Id::made(1, 2, 1), Id::made(1, 2, 2)];
     let mut forest = DirForest::over(alloc, folders, &root, &ids)?;
     forest_suite(alloc, &mut forest)?;
@@ -81,7 +85,12 @@ fn what_is_told_lasts(rt: HostRuntime) -> Result<(), Fail> {
 }
 
 // Puts a file of these bytes at a path of the first collection.
-fn put<F: Forest>(alloc: Global, forest: &mut F, at: &Path, bytes: &[u8]) -> Result<(), TreeFault>
+pub(crate) fn put<F: Forest>(
+    alloc: Global,
+    forest: &mut F,
+    at: &Path,
+    bytes: &[u8],
+) -> Result<(), TreeFault>
     requires { 0 < F.words.collections forest.old }
     ensures { F.words.collections forest.new ≡ F.words.collections forest.old }
 {
@@ -152,6 +161,8 @@ fn no_link_leads_out(rt: HostRuntime) -> Result<(), Fail> {
     }
     assert_eq!(rt; forest.faults(), 0);
     assert_eq!(rt; fs::read(&rt, &secret)?.as_slice(), b"secret".as_slice());
+    fs::remove_file(&rt, &secret)?;
+    fs::remove_dir(&rt, &outside)?;
     fs::remove_dir_all(&rt, &root)?;
     Ok(())
 }

@@ -6,6 +6,8 @@
 #![tactic(auto)]
 
 mod changing;
+#[cfg(test)]
+mod edge_tests;
 mod forest;
 #[cfg(test)]
 mod forest_tests;

@@ -1,14 +1,13 @@
 // The names in a folder, and pages of its entries.
 ghost use Rattle.std.specs.Option.{option_copied};
-ghost use Rattle.std.specs.Range.Bound.{bound_map};
 ghost use Rattle.std.specs.Prelude.{[], IfOk, OnOk, ◌++◌, ◌∷◌, ◌≡◌, ◌⊎◌};
 ghost use Rattle.gt_forest.specs.Listing.{IsInOrder, names_of};
-ghost use Rattle.gt_forest.specs.Rows.{start_of};
 
 use crate::trail::Trail;
 use crate::trees::{Home, Trees, is_staging, place_of};
 use crate::trouble::{Trouble, is_code};
 use gt_folders::{EntryName, Folders, SightKind};
+use gt_forest::start_of;
 use gt_paths::{Name, NameFault, Path};
 use gt_types::{Entry, Kind};
 use std::alloc::{AllocError, Global};
@@ -111,10 +110,7 @@ pub(crate) fn names_in<F: Folders>(
     let mut names = BTreeMap::new(alloc);
     let mut room = [0u8; ROOM];
     for _ in 0..u64::MAX {
-        let length = match folders.names(folder, &mut room) {
-            Ok(length) => length,
-            Err(error) => return Err(Trouble::Failed(error)),
-        };
+        let length = folders.names(folder, &mut room)?;
         if length == 0 {
             break;
         }
@@ -173,16 +169,6 @@ fn add_name(
     }
 }
 
-// Where the names after this one begin.
-fn start_of<'a>(after: Option<&'a Name>) -> Bound<&'a Name>
-    ensures { bound_map (λ name. name.now) result ≡ start_of (option_copied after.entry) }
-{
-    match after {
-        Some(name) => Bound::Excluded(name),
-        None => Bound::Unbounded,
-    }
-}
-
 // The first entries behind a name. A name that leads to neither a file nor a folder is passed over.
 fn page<F: Folders>(
     alloc: Global,
@@ -235,7 +221,7 @@ fn kind_of(found: io::Result<SightKind>) -> Result<Option<Kind>, Trouble> {
         Ok(SightKind::Folder) => Ok(Some(Kind::Folder)),
         Ok(SightKind::Other) => Ok(None),
         Err(error) if is_code(&error, libc::ENOENT) => Ok(None),
-        Err(error) => Err(Trouble::Failed(error)),
+        Err(error) => Err(Trouble::from(error)),
     }
 }
 

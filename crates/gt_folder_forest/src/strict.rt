@@ -1,5 +1,5 @@
 // Folders that tell what stands at a name only where its folder was synced since this life began, and since it was changed
-// last. Over them a forest fails where it tells what may not last.
+// last. Over them a forest fails where it tells what may not last. One of their syncs may be chosen to fail.
 ghost use Rattle.std.specs.Prelude.{IsErr};
 ghost use Rattle.gt_folders.specs.Folders.{IsSameOpen};
 
@@ -11,23 +11,34 @@ use std::io;
 pub(crate) struct StrictFolders<F: Folders + Drop> {
     inner: F,
     lasting: Vec<(u64, u64)>,
+    syncs: u64,
+    failing: u64,
 }
 
 impl<F: Folders + Drop> StrictFolders<F> {
-    pub(crate) fn new(alloc: Global, inner: F) -> StrictFolders<F> {
+    // Of the syncs, counted from 1, this one fails.
+    pub(crate) fn new(alloc: Global, inner: F, failing: u64) -> StrictFolders<F> {
         StrictFolders {
             inner,
             lasting: Vec::new(alloc),
+            syncs: 0,
+            failing,
         }
     }
 
-    // Refuses a folder that isn't known to last.
+    // Refuses a folder that isn't known to last, unless a staging file is asked for.
     fn check(&mut self, folder: usize, name: EntryName<'_>) -> io::Result<()>
         ensures same { IsSameOpen F.words self.old.inner self.new.inner }
     {
         if matches!(name, EntryName::Staging(_)) {
             return Ok(());
         }
+        self.check_folder(folder)
+    }
+
+    fn check_folder(&mut self, folder: usize) -> io::Result<()>
+        ensures same { IsSameOpen F.words self.old.inner self.new.inner }
+    {
         let found = self.inner.look_open(folder)?;
         if self.lasting.contains(&(found.device, found.inode)) {
             Ok(())
@@ -102,6 +113,7 @@ impl<F: Folders + Drop> Folders for StrictFolders<F> {
     }
 
     fn names(&mut self, folder: usize, into: &mut [u8]) -> io::Result<usize> {
+        self.check_folder(folder)?;
         self.inner.names(folder, into)
     }
 
@@ -145,6 +157,10 @@ impl<F: Folders + Drop> Folders for StrictFolders<F> {
 
     fn sync(&mut self, number: usize) -> io::Result<()> {
         self.inner.sync(number)?;
+        self.syncs = self.syncs.saturating_add(1);
+        if self.syncs == self.failing {
+            return Err(io::Error::from_raw_os_error(libc::EIO));
+        }
         self.add(number)
     }
 
