@@ -18,8 +18,6 @@ mod plan;
 mod state;
 mod take;
 mod task;
-#[cfg(test)]
-mod tests;
 
 pub use change::{Change, PlanFault, Prepared};
 pub use decision::Decision;

@@ -3,8 +3,8 @@ ghost use Rattle.std.specs.Prelude.{◌≤◌};
 ghost use Rattle.gt_causes.specs.Causes.{Rose};
 ghost use Rattle.gt_disk.specs.Disk.{untold, untold_laws};
 
-use crate::{Disk, Keep, MemDisk, SuiteFault, disk_suite};
 use gt_causes::Failed;
+use gt_disk::{Disk, Keep, MemDisk, SuiteFault, disk_suite};
 use std::alloc::Global;
 use std::test::Fail;
 

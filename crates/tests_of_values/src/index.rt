@@ -1,4 +1,4 @@
-use crate::{Asked, Index, Keyed};
+use gt_index::{Asked, Index, Keyed};
 use std::cmp::Ordering;
 use std::test::Fail;
 

@@ -1,7 +1,7 @@
 ghost use Rattle.std.specs.Prelude.{◌≤◌};
 
-use crate::{first_rule, needs_copy, pattern_matches};
 use gt_paths::Name;
+use gt_select::{first_rule, needs_copy, pattern_matches};
 use gt_types::{FilterRule, Kind, Stat};
 use gt_values::{Digest, Moment, Text};
 use std::alloc::{AllocError, Global};

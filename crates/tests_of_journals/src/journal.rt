@@ -1,6 +1,6 @@
 // Faults and crashes at each call of an append, journals cut at each byte, and the calls of an opening.
-use crate::{Journal, JournalFault, OpenFault, Settled};
 use gt_disk::{Disk, Keep, MemDisk};
+use gt_journal::{Journal, JournalFault, OpenFault, Settled};
 use std::alloc::Global;
 use std::test::Fail;
 

@@ -1,7 +1,7 @@
 ghost use Rattle.std.specs.Prelude.{IfOk};
 ghost use Rattle.gt_machine.specs.Run.{IsReached};
 
-use crate::{Decision, PlanFault, State, empty_states_are_reached};
+use gt_machine::{Decision, PlanFault, State, empty_states_are_reached};
 use gt_paths::Path;
 use gt_setup::Setup;
 use gt_types::{

@@ -1,4 +1,4 @@
-use crate::{AccessRow, Right, Rules};
+use gt_access::{AccessRow, Right, Rules};
 use gt_paths::Path;
 use gt_types::{AccessSpec, Principal, Who};
 use gt_values::{Id, Sequence};

@@ -1,5 +1,5 @@
-use crate::{TaskRow, Tasks};
 use gt_paths::Path;
+use gt_tasks::{TaskRow, Tasks};
 use gt_types::{DeadlineChange, DeleteSpec, Kept, LabelChange, Reason, Spec, Status};
 use gt_values::{Id, Moment, Sequence, Text};
 use std::alloc::Global;

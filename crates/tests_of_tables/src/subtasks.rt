@@ -1,5 +1,5 @@
-use crate::{Growth, How, Item, ItemState, Items};
 use gt_paths::Path;
+use gt_subtasks::{Growth, How, Item, ItemState, Items};
 use gt_types::{
     Act, Code, Counters, DeleteSpec, Evidence, Kept, Spec, TransferEntry, TransferSpec, Want,
 };

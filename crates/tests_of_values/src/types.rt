@@ -1,9 +1,9 @@
-use crate::{
+use gt_paths::{Name, Path};
+use gt_types::{
     DeadlineChange, DeleteSpec, Entry, FilterRule, Kept, KeptMember, Kind, LabelChange, PauseSpec,
     Principal, TransferEntry, TransferSpec, is_deadline_change, is_delete_spec, is_kept, is_label,
     is_label_change, is_listing, is_message, is_pattern, is_pause_spec, is_transfer_spec,
 };
-use gt_paths::{Name, Path};
 use gt_values::{Id, Moment, Sequence, Text};
 use std::alloc::{AllocError, Global};
 use std::test::Fail;

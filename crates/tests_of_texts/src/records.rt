@@ -1,4 +1,4 @@
-use crate::{DecodeFault, decode, encode, encode_into};
+use gt_records::{DecodeFault, decode, encode, encode_into};
 use gt_types::{Event, Happening, Kind, Principal, TransferSpec};
 use gt_values::{Id, Moment};
 use std::process::Abort;

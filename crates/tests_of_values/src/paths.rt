@@ -1,4 +1,4 @@
-use crate::{Name, NameFault, Path, PathFault};
+use gt_paths::{Name, NameFault, Path, PathFault};
 use std::alloc::{AllocError, Global};
 use std::collections::BTreeMap;
 use std::test::Fail;

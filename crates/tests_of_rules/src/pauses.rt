@@ -1,4 +1,4 @@
-use crate::{PauseAct, PauseRow, Pauses};
+use gt_pauses::{PauseAct, PauseRow, Pauses};
 use gt_types::PauseSpec;
 use gt_values::{Id, Text};
 use std::alloc::Global;

@@ -1,4 +1,4 @@
-use crate::{Claim, Claims};
+use gt_claims::{Claim, Claims};
 use gt_paths::Path;
 use gt_types::{Act, Want};
 use std::alloc::Global;

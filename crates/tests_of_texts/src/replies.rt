@@ -2,10 +2,10 @@ ghost use Rattle.gt_types.specs.Reply.{is_number, is_printable, is_printable_acc
 ghost use Rattle.std.specs.List.{list_all};
 ghost use Rattle.std.specs.Prelude.{◌≡◌, IfOk, IsTrue, length, true};
 
-use crate::{
+use gt_paths::Path;
+use gt_replies::{
     documents_are_spelled, members_ascend, statuses_have_three_digits, write_refusal, write_reply,
 };
-use gt_paths::Path;
 use gt_setup::Setup;
 use gt_types::{
     AccessDocument, AccessSpec, Code, Counters, DeleteOptions, Kept, Page, PathPair, Principal,

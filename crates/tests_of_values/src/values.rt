@@ -1,4 +1,4 @@
-use crate::{
+use gt_values::{
     Bytes, Clock, Digest, FixedClock, Id, Moment, MomentFault, Sequence, Table, Text, is_alive,
     read_decimal,
 };

@@ -3,7 +3,7 @@ ghost use Rattle.gt_documents.specs.Members.{number_if, object_at};
 ghost use Rattle.gt_values.specs.Results.{◌>>=◌};
 ghost use Rattle.std.specs.Prelude.{codes, true};
 
-use crate::{
+use gt_documents::{
     DocumentFault, Place, ReadItem, Step, first_value, is_object, items, number_if_there,
     object_in, read_page,
 };

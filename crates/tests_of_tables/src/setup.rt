@@ -1,6 +1,6 @@
 // What no clause says: texts from outside, each getter once, and what a fault prints. Faults are compared as the lines they print.
-use crate::{Setup, SetupFault};
 use gt_paths::Path;
+use gt_setup::{Setup, SetupFault};
 use gt_values::Id;
 use std::alloc::Global;
 use std::test::Fail;
