@@ -6,18 +6,12 @@
 #![tactic(auto)]
 
 mod changing;
-#[cfg(test)]
-mod edge_tests;
 mod forest;
-#[cfg(test)]
-mod forest_tests;
 mod leftovers;
 mod listing;
 mod reading;
 mod spot;
 mod staging;
-#[cfg(test)]
-mod strict;
 mod trail;
 mod trees;
 mod trouble;

@@ -2,7 +2,7 @@
 ghost use Rattle.std.specs.Prelude.{IfOk, ◌<◌, ◌≡◌};
 
 use crate::strict::StrictFolders;
-use crate::{Cleared, DirForest};
+use gt_folder_forest::{Cleared, DirForest};
 use gt_folders::SystemFolders;
 use gt_forest::{Forest, TreeFault};
 use gt_forest_suite::forest_suite;
@@ -29,7 +29,7 @@ pub(crate) fn root_for(rt: &HostRuntime, test: &str) -> Result<String, Fail> {
     let folder = env::temp_dir(rt)?;
     let folder = folder.as_str();
     let number = process::id(rt.process());
-    let root = format!(in rt.alloc(); "{folder}/gt_folder_forest-{number}-{test}")?;
+    let root = format!(in rt.alloc(); "{folder}/tests_of_folders-{number}-{test}")?;
     fs::create_dir(rt, &root)?;
     fs::create_dir(rt, &at(rt, &root, FIRST)?)?;
     fs::create_dir(rt, &at(rt, &root, "aside")?)?;

@@ -1,9 +1,9 @@
 // The forest over real folders: names and times that are none, folders that are missing or closed, and syncs that fail.
 ghost use Rattle.std.specs.Prelude.{IfOk, ◌≡◌};
 
-use crate::DirForest;
-use crate::forest_tests::{FIRST, at, forest_at, path, put, root_for};
+use crate::folder_forest::{FIRST, at, forest_at, path, put, root_for};
 use crate::strict::StrictFolders;
+use gt_folder_forest::DirForest;
 use gt_folders::{EntryName, Folders, SystemFolders};
 use gt_forest::{Forest, TreeFault};
 use gt_paths::{Name, Path};

@@ -1,5 +1,5 @@
 // The real folders, in a folder for temporary ones: what is made is found, and no link is followed.
-use crate::{EntryName, Folders, SightKind, SystemFolders};
+use gt_folders::{EntryName, Folders, SightKind, SystemFolders};
 use gt_paths::Name;
 use std::os::unix::fs::symlink;
 use std::test::Fail;
@@ -12,7 +12,7 @@ fn folder_for(rt: &HostRuntime, test: &str) -> Result<String, Fail> {
     let folder = env::temp_dir(rt)?;
     let folder = folder.as_str();
     let number = process::id(rt.process());
-    let path = format!(in rt.alloc(); "{folder}/gt_folders-{number}-{test}")?;
+    let path = format!(in rt.alloc(); "{folder}/tests_of_folders-{number}-open-{test}")?;
     fs::create_dir(rt, &path)?;
     Ok(path)
 }
