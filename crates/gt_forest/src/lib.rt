@@ -20,5 +20,4 @@ mod tree;
 pub use fault::TreeFault;
 pub use forest::Forest;
 pub use laws::{calls_keep_trees, trees_decide_answers};
-pub use look::start_of;
 pub use mem::MemForest;
