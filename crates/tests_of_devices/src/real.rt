@@ -1,6 +1,6 @@
 // The suites over real files and pipes, locks, what is given back, and faults. Files lie in the folder for temporary ones.
-use crate::{FileDisk, FileFault, StdSink, StdSource};
 use gt_disk::{Disk, disk_suite};
+use gt_real::{FileDisk, FileFault, StdSink, StdSource};
 use gt_streams::{Sink, Source, sink_suite, source_suite};
 use std::fs::{self, File};
 use std::io::{self, ErrorKind, Seek, Write};
@@ -14,7 +14,7 @@ fn path_for(rt: &HostRuntime, test: &str) -> Result<String, Fail> {
     let folder = env::temp_dir(rt)?;
     let folder = folder.as_str();
     let number = process::id(rt.process());
-    Ok(format!(in rt.alloc(); "{folder}/gt_real-{number}-{test}")?)
+    Ok(format!(in rt.alloc(); "{folder}/tests_of_devices-{number}-{test}")?)
 }
 
 #[test]
