@@ -7,7 +7,7 @@ use Rattle.std.specs.Cmp.Lexicographic.{pointwise}
 use Rattle.std.specs.List.{AllByRecursion, ends_with}
 use Rattle.matchit.specs.Rows.{RowsOf, param_token, catch_all_token}
 use Rattle.matchit.specs.Seek.{slash, segment, has_slash, same_text, cuts, better, own, step, or_else, longest_from, longest_suffix, with_suffix, param_step, seek, first}
-use Rattle.gt_requests.specs.Routes.{is_over, fits}
+use Rattle.gt_requests.specs.Resources.{is_over, fits}
 use Rattle.gt_requests.proofs.Shapes.{starts_piece, is_shaped}
 
 -- ---- tests

@@ -1,29 +1,10 @@
-use crate::{Incoming, RequestFault, read_request};
+// What no clause says: requests, documents and limits from outside, as tables of what each is answered.
+use crate::{RequestFault, Routes, read_request};
 use gt_setup::Setup;
-use gt_types::{Command, Kept, Principal, TransferSpec};
-use gt_values::{Bytes, Id, Text};
-use std::alloc::{AllocError, Global};
-use std::process::Abort;
+use gt_types::{AccessSpec, Command, Principal, ReplyCode, TransferEntry, TransferSpec};
+use gt_values::Id;
+use std::alloc::Global;
 use std::test::Fail;
-
-const ACCESS_LIST: &str = "/v0.10/endpoint/00000000-0000-4000-8000-0000000000c0/access";
-
-const RULE: &str =
-    "/v0.10/endpoint/00000000-0000-4000-8000-0000000000c0/access/00000007-0003-8000-8000-000000000001";
-
-const TASK: &str = "/v0.10/task/00000007-0002-8000-8000-000000000001";
-
-// Documents without their last brace. A member that is written behind them counts in place of the one in them.
-const TRANSFER: &str =
-    "{\"DATA_TYPE\":\"transfer\",\"submission_id\":\"00000007-0001-8000-8000-000000000001\",\"source_endpoint\":\"00000000-0000-4000-8000-0000000000c0\",\"destination_endpoint\":\"00000000-0000-4000-8000-0000000000c1\",\"DATA\":[{\"DATA_TYPE\":\"transfer_item\",\"source_path\":\"/e\",\"destination_path\":\"/e\"}]";
-
-const ENTRY: &str =
-    "{\"DATA_TYPE\":\"transfer_item\",\"source_path\":\"/e\",\"destination_path\":\"/e\"";
-
-const ACCESS: &str =
-    "{\"DATA_TYPE\":\"access\",\"principal_type\":\"group\",\"principal\":\"00000000-0000-4000-8000-0000000000a1\",\"path\":\"/p/\",\"permissions\":\"rw\"";
-
-const PERMISSION: &str = "{\"DATA_TYPE\":\"access\",\"permissions\":\"r\"";
 
 // One identity with the token `abc`, and two collections: one with the home `/home/ann`, one with the root.
 const SETUP: &[u8] = b"namespace = 7
@@ -44,65 +25,410 @@ owner = \"00000000-0000-4000-8000-0000000000a1\"
 home = \"/\"
 ";
 
+const TRANSFERS: &str = "/v0.10/transfer";
+
+const RULES: &str = "/v0.10/endpoint/00000000-0000-4000-8000-0000000000c0/access";
+
+const RULE: &str =
+    "/v0.10/endpoint/00000000-0000-4000-8000-0000000000c0/access/00000007-0003-8000-8000-000000000001";
+
+// The same of a collection and a rule that aren't there, and of no route.
+const NO_RULE: &str = "/v0.10/endpoint/00000000-0000-4000-8000-0000000000c0/access/x";
+
+const NO_COLLECTION: &str = "/v0.10/endpoint/00000000-0000-4000-8000-0000000000c9/access/x";
+
+const NO_ROUTE: &str = "/v0.10/point/00000000-0000-4000-8000-0000000000c9/access/x";
+
+/// A document without its last brace, and where it is sent. A member that is written behind it counts in place of its own.
+#[derive(Clone, Copy)]
+struct Document {
+    method: &'static str,
+    target: &'static str,
+    text: &'static str,
+}
+
+const TRANSFER: Document = Document {
+    method: "POST",
+    target: TRANSFERS,
+    text: "{\"DATA_TYPE\":\"transfer\",\"submission_id\":\"00000007-0001-8000-8000-000000000001\",\"source_endpoint\":\"00000000-0000-4000-8000-0000000000c0\",\"destination_endpoint\":\"00000000-0000-4000-8000-0000000000c1\",\"DATA\":[{\"DATA_TYPE\":\"transfer_item\",\"source_path\":\"/e\",\"destination_path\":\"/e\"}]",
+};
+
+const ACCESS: Document = Document {
+    method: "POST",
+    target: RULES,
+    text: "{\"DATA_TYPE\":\"access\",\"principal_type\":\"group\",\"principal\":\"00000000-0000-4000-8000-0000000000a1\",\"path\":\"/p/\",\"permissions\":\"rw\"",
+};
+
+const PERMISSION: Document = Document {
+    method: "PUT",
+    target: RULE,
+    text: "{\"DATA_TYPE\":\"access\",\"permissions\":\"r\"",
+};
+
+const ENTRY: &str =
+    "{\"DATA_TYPE\":\"transfer_item\",\"source_path\":\"/e\",\"destination_path\":\"/e\"";
+
+// A permission, whole.
+const READ: &str = "{\"DATA_TYPE\":\"access\",\"permissions\":\"r\"}";
+
+/// What a request is to be answered: a command, a refusal without a place, or a bad request at a place.
+#[derive(Clone, Copy)]
+enum Want {
+    Read,
+    Refused(ReplyCode),
+    Bad(&'static str),
+}
+
+const NOT_FOUND: Want = Want::Refused(ReplyCode::NotFound);
+
+const NOT_ALLOWED: Want = Want::Refused(ReplyCode::MethodNotAllowed);
+
+const UNKNOWN: Want = Want::Refused(ReplyCode::AuthenticationFailed);
+
+const NO_ENDPOINT: Want = Want::Refused(ReplyCode::EndpointNotFound);
+
+const NO_TASK: Want = Want::Refused(ReplyCode::TaskNotFound);
+
+/// The method, the target, the token, with `-` for none, and the body; and what is answered.
+type Row = (&'static str, &'static str, &'static str, &'static str, Want);
+
+// Each request has the causes of all that come behind it.
+const IN_ORDER: [Row; 9] = [
+    ("POST", NO_ROUTE, "hello", "7", NOT_FOUND),
+    ("POST", NO_COLLECTION, "hello", "7", NOT_ALLOWED),
+    ("PUT", NO_COLLECTION, "hello", "7", UNKNOWN),
+    ("PUT", NO_COLLECTION, "-", "7", UNKNOWN),
+    ("PUT", NO_COLLECTION, "abc", "7", Want::Bad("body")),
+    ("PUT", NO_COLLECTION, "abc", "{}", Want::Bad("DATA_TYPE")),
+    ("PUT", NO_COLLECTION, "abc", READ, NO_ENDPOINT),
+    (
+        "PUT",
+        NO_RULE,
+        "abc",
+        READ,
+        Want::Refused(ReplyCode::RuleNotFound),
+    ),
+    ("PUT", RULE, "abc", READ, Want::Read),
+];
+
+// The routes, and what their methods ask.
+const ROUTES: [Row; 34] = [
+    ("GET", "/v0.10/submission_id", "abc", "7", Want::Read),
+    ("GET", "/v0.10/submission_id?limit=0", "abc", "", Want::Read),
+    ("GET", "/v0.10/task_list", "abc", "", Want::Read),
+    (
+        "GET",
+        "/v0.10/task_list?limit=1000&limit=0",
+        "abc",
+        "",
+        Want::Read,
+    ),
+    (
+        "GET",
+        "/v0.10/task_list?limit=1001",
+        "abc",
+        "",
+        Want::Bad("query"),
+    ),
+    (
+        "GET",
+        "/v0.10/task_list?offset=5?",
+        "abc",
+        "",
+        Want::Bad("query"),
+    ),
+    (
+        "GET",
+        "/v0.10/task/00000007-0002-8000-8000-000000000001",
+        "abc",
+        "",
+        Want::Read,
+    ),
+    (
+        "GET",
+        "/v0.10/task/{00000007-0002-8000-8000-000000000001}",
+        "abc",
+        "",
+        Want::Read,
+    ),
+    ("GET", "/v0.10/task/x", "abc", "", NO_TASK),
+    (
+        "GET",
+        "/v0.10/task/00000007-0002-8000-8000-000000000001/successful_transfers",
+        "abc",
+        "",
+        Want::Read,
+    ),
+    (
+        "GET",
+        "/v0.10/task/x/successful_transfers",
+        "abc",
+        "",
+        NO_TASK,
+    ),
+    (
+        "GET",
+        "/v0.10/task/00000007-0002-8000-8000-000000000001/skipped_errors?offset=7",
+        "abc",
+        "",
+        Want::Read,
+    ),
+    (
+        "GET",
+        "/v0.10/task/x/skipped_errors?limit=0",
+        "abc",
+        "",
+        Want::Bad("query"),
+    ),
+    (
+        "GET",
+        "/v0.10/endpoint/00000000-0000-4000-8000-0000000000c1",
+        "abc",
+        "",
+        Want::Read,
+    ),
+    ("GET", "/v0.10/endpoint/x", "abc", "", NO_ENDPOINT),
+    (
+        "GET",
+        "/v0.10/endpoint/00000000-0000-4000-8000-0000000000c1/access_list",
+        "abc",
+        "",
+        Want::Read,
+    ),
+    (
+        "POST",
+        "/v0.10/endpoint/x/access",
+        "abc",
+        "{}",
+        Want::Bad("DATA_TYPE"),
+    ),
+    ("GET", RULE, "abc", "", Want::Read),
+    ("DELETE", RULE, "abc", "", Want::Read),
+    // Not of the path.
+    ("GET", "/v0.10/submission_id/", "abc", "", NOT_FOUND),
+    ("GET", "/v0.10/Submission_id", "abc", "", NOT_FOUND),
+    ("GET", "/v0.10/task/", "abc", "", NOT_FOUND),
+    ("GET", "/v0.10/task/a/b", "abc", "", NOT_FOUND),
+    ("GET", "", "abc", "", NOT_FOUND),
+    // Not of the method.
+    ("get", "/v0.10/submission_id", "abc", "", NOT_ALLOWED),
+    ("POST", "/v0.10/task/x", "abc", "", NOT_ALLOWED),
+    ("DELETE", TRANSFERS, "abc", "", NOT_ALLOWED),
+    ("HEAD", RULE, "abc", "", NOT_ALLOWED),
+    // No resources of this desk.
+    ("POST", "/v0.10/delete", "abc", "", NOT_FOUND),
+    ("PUT", "/v0.10/task/x", "abc", "", NOT_FOUND),
+    ("POST", "/v0.10/task/x/cancel", "abc", "", NOT_FOUND),
+    (
+        "GET",
+        "/v0.10/endpoint_manager/pause_rule_list",
+        "abc",
+        "",
+        NOT_FOUND,
+    ),
+    (
+        "POST",
+        "/v0.10/endpoint_manager/pause_rule",
+        "abc",
+        "",
+        NOT_FOUND,
+    ),
+    (
+        "DELETE",
+        "/v0.10/endpoint_manager/pause_rule/x",
+        "abc",
+        "",
+        NOT_FOUND,
+    ),
+];
+
+/// A member's name and a value that is bad for it.
+type Spoiled = (&'static str, &'static str);
+
+// In the order in which they are tested.
+const OF_TRANSFER: [Spoiled; 20] = [
+    ("DATA_TYPE", "\"delete\""),
+    ("submission_id", "null"),
+    ("source_endpoint", "\"x\""),
+    ("destination_endpoint", "7"),
+    ("label", "7"),
+    ("deadline", "\"1970-01-01T00:01:40Z\""),
+    ("sync_level", "0"),
+    ("verify_checksum", "1"),
+    ("preserve_timestamp", "\"true\""),
+    ("delete_destination_extra", "true"),
+    ("skip_source_errors", "[]"),
+    ("recursive_symlinks", "\"copy\""),
+    ("notify_on_succeeded", "0"),
+    ("notify_on_failed", "0"),
+    ("notify_on_inactive", "0"),
+    ("encrypt_data", "0"),
+    ("fail_on_quota_errors", "0"),
+    ("store_base_path_info", "0"),
+    ("filter_rules", "[{\"name\":\"*\"}]"),
+    ("DATA", "[]"),
+];
+
+const OF_ACCESS: [Spoiled; 5] = [
+    ("DATA_TYPE", "null"),
+    ("principal_type", "\"user\""),
+    ("principal", "null"),
+    ("path", "\"p\""),
+    ("permissions", "\"w\""),
+];
+
+const OF_PERMISSION: [Spoiled; 2] = [("DATA_TYPE", "\"transfer\""), ("permissions", "null")];
+
+/// Members that are written behind a transfer, and what is answered.
+type Members = (&'static str, Want);
+
+const VALUES: [Members; 25] = [
+    ("", Want::Read),
+    (",\"label\":\"\"", Want::Read),
+    (",\"label\":null", Want::Read),
+    (",\"deadline\":null", Want::Read),
+    (",\"sync_level\":null", Want::Read),
+    (",\"verify_checksum\":null", Want::Read),
+    (",\"delete_destination_extra\":false", Want::Read),
+    (",\"delete_destination_extra\":null", Want::Read),
+    (",\"recursive_symlinks\":\"ignore\"", Want::Read),
+    (",\"recursive_symlinks\":null", Want::Read),
+    (",\"encrypt_data\":null", Want::Read),
+    (",\"filter_rules\":[]", Want::Read),
+    (",\"filter_rules\":null", Want::Read),
+    (",\"filter_rules\":{}", Want::Bad("filter_rules")),
+    (",\"filter_rules\":[7]", Want::Bad("filter_rules")),
+    (",\"anything\":[1.5]", Want::Read),
+    (",\"label\":7,\"label\":\"first\"", Want::Read),
+    (",\"label\":\"first\",\"label\":7", Want::Bad("label")),
+    (
+        ",\"submission_id\":\"urn:uuid:00000007-0001-8000-8000-00000000000A\"",
+        Want::Read,
+    ),
+    (
+        ",\"source_endpoint\":\"00000000-0000-4000-8000-0000000000c9\"",
+        NO_ENDPOINT,
+    ),
+    (
+        ",\"source_endpoint\":\"00000000-0000-4000-8000-0000000000c9\",\"DATA\":[]",
+        Want::Bad("DATA"),
+    ),
+    (
+        ",\"destination_endpoint\":\"00000000-0000-4000-8000-0000000000c9\"",
+        NO_ENDPOINT,
+    ),
+    (",\"DATA\":{}", Want::Bad("DATA")),
+    (",\"DATA\":null", Want::Bad("DATA")),
+    (",\"DATA\":[7]", Want::Bad("DATA[0]")),
+];
+
+// Members that are written behind the second of two entries.
+const ENTRIES: [Members; 10] = [
+    ("", Want::Read),
+    (
+        ",\"DATA_TYPE\":\"delete_item\",\"source_path\":7",
+        Want::Bad("DATA[1].DATA_TYPE"),
+    ),
+    (
+        ",\"source_path\":\"e\",\"destination_path\":7",
+        Want::Bad("DATA[1].source_path"),
+    ),
+    (
+        ",\"destination_path\":7,\"recursive\":7",
+        Want::Bad("DATA[1].destination_path"),
+    ),
+    (",\"recursive\":0", Want::Bad("DATA[1].recursive")),
+    (",\"recursive\":true", Want::Bad("DATA[1].recursive")),
+    (",\"recursive\":false", Want::Read),
+    (",\"recursive\":null", Want::Read),
+    (",\"source_path\":\"/~\"", Want::Read),
+    (",\"anything\":{}", Want::Read),
+];
+
+/// The last digits of the destination's collection, the two paths of the one entry, and what is answered. The source is
+/// the collection `c0`, whose home is `/home/ann`.
+type Sides = (&'static str, &'static str, &'static str, Want);
+
+const SIDES: [Sides; 7] = [
+    ("c0", "/a", "/b", Want::Read),
+    ("c0", "/a", "/ab", Want::Read),
+    ("c0", "/a/b", "/a", Want::Bad("DATA[0].destination_path")),
+    ("c0", "/a", "/a/b", Want::Bad("DATA[0].destination_path")),
+    (
+        "c0",
+        "/~/b",
+        "/home/ann",
+        Want::Bad("DATA[0].destination_path"),
+    ),
+    ("c1", "/a", "/a", Want::Read),
+    ("c9", "/a", "/a", NO_ENDPOINT),
+];
+
 fn id(last: u8) -> Id {
     Id::from_bytes([0, 0, 0, 0, 0, 0, 0x40, 0, 0x80, 0, 0, 0, 0, 0, 0, last])
 }
 
-fn worked_setup(alloc: Global) -> Result<Setup, Fail> {
-    Ok(Setup::read(alloc, SETUP)?)
+// The setup and the routes, made once.
+#[derive(Drop)]
+struct Served {
+    setup: Setup,
+    routes: Routes,
 }
 
-// The command of a request.
-fn ask(
-    alloc: Global,
-    setup: &Setup,
-    method: &str,
-    target: &str,
-    token: Option<&str>,
-    body: &str,
-) -> Result<Command, RequestFault> {
-    match read_request(alloc, setup, method, target, token, body.as_bytes()) {
-        Ok((_, command)) => Ok(command),
-        Err(fault) => Err(fault),
-    }
+fn desk(alloc: Global) -> Result<Served, Fail> {
+    let setup = Setup::read(alloc, SETUP)?;
+    let routes = Routes::new(alloc)?;
+    Ok(Served { setup, routes })
 }
 
-// The command of a request by the token `abc`.
-fn command(
-    alloc: Global,
-    method: &str,
-    target: &str,
-    body: &str,
-) -> Result<Result<Command, RequestFault>, Fail> {
-    let setup = worked_setup(alloc)?;
-    Ok(ask(alloc, &setup, method, target, Some("abc"), body))
-}
-
-// The refusal's code, and its place if it has one; `Ok` of a request that is read.
-fn told(alloc: Global, answer: &Result<Command, RequestFault>) -> Result<String, Fail> {
-    match answer {
-        Ok(_) => Ok(String::from_str(alloc, "Ok")?),
-        Err(RequestFault::Refused { code, place }) => {
-            if place.is_empty() {
-                Ok(format!(in alloc; "{code:?}")?)
-            } else {
-                let place = place.as_str();
-                Ok(format!(in alloc; "{code:?} {place}")?)
-            }
+// Whether the answer is the one wanted.
+fn is_wanted(answer: Result<(Id, Command), RequestFault>, want: Want) -> bool {
+    match (answer, want) {
+        (Ok((caller, _)), Want::Read) => caller == id(0xa1),
+        (Err(RequestFault::Refused { code, place }), Want::Refused(wanted)) => {
+            code == wanted && place.is_empty()
         }
-        Err(RequestFault::OutOfMemory) => Err(AllocError.into()),
+        (Err(RequestFault::Refused { code, place }), Want::Bad(wanted)) => {
+            code == ReplyCode::BadRequest && place.as_str() == wanted
+        }
+        _ => false,
     }
 }
 
-fn told_of(alloc: Global, method: &str, target: &str, body: &str) -> Result<String, Fail> {
-    let answer = command(alloc, method, target, body)?;
-    told(alloc, &answer)
+// Whether the request is answered so.
+fn is_answered(alloc: Global, desk: &Served, row: Row) -> bool {
+    let (method, target, token, body, want) = row;
+    let token = if token == "-" { None } else { Some(token) };
+    let answer = desk
+        .routes
+        .read(alloc, &desk.setup, method, target, token, body.as_bytes());
+    is_wanted(answer, want)
 }
 
-// The document with these members behind its own.
-fn spoiled(alloc: Global, document: &str, members: &[(&str, &str)]) -> Result<String, Fail> {
-    let mut text = String::from_str(alloc, document)?;
-    for (name, value) in members {
+// The place of the first row that is answered otherwise.
+fn first_wrong(alloc: Global, rows: &[Row]) -> Result<Option<usize>, Fail> {
+    let desk = desk(alloc)?;
+    for (place, row) in rows.iter().enumerate() {
+        if !is_answered(alloc, &desk, *row) {
+            return Ok(Some(place));
+        }
+    }
+    Ok(None)
+}
+
+// Whether a document is answered so.
+fn is_told(alloc: Global, desk: &Served, document: Document, body: &[u8], want: Want) -> bool {
+    let Document { method, target, .. } = document;
+    let answer = desk
+        .routes
+        .read(alloc, &desk.setup, method, target, Some("abc"), body);
+    is_wanted(answer, want)
+}
+
+// The document with these members behind its own, the last of them first.
+fn spoiled(alloc: Global, document: Document, members: &[Spoiled]) -> Result<String, Fail> {
+    let mut text = String::from_str(alloc, document.text)?;
+    for (name, value) in members.iter().rev() {
         text.push_str(",\"")?;
         text.push_str(name)?;
         text.push_str("\":")?;
@@ -112,576 +438,350 @@ fn spoiled(alloc: Global, document: &str, members: &[(&str, &str)]) -> Result<St
     Ok(text)
 }
 
-// Each member is bad with its value, the first of two bad ones is the place, and a required one can't be null.
-fn check_members(
-    rt: &impl Abort,
+// Whether the document with these bad members is refused at that of this name.
+fn is_bad_at(
     alloc: Global,
-    method: &str,
-    target: &str,
-    document: &str,
-    members: &[(&str, &str)],
-) -> Result<(), Fail> {
-    for first in 0..members.len() {
-        for second in first..members.len() {
-            let body = spoiled(alloc, document, &[members[second], members[first]])?;
-            let place = format!(in alloc; "BadRequest {}", members[first].0)?;
-            let answer = told_of(alloc, method, target, body.as_str())?;
-            assert_eq!(rt; answer.as_str(), place.as_str(), "{}", body.as_str());
+    desk: &Served,
+    document: Document,
+    members: &[Spoiled],
+    name: &'static str,
+) -> Result<bool, Fail> {
+    let body = spoiled(alloc, document, members)?;
+    Ok(is_told(alloc, desk, document, body.as_bytes(), Want::Bad(name)))
+}
+
+// The place of the first member that isn't told where it alone is bad, or where it and all behind it are.
+fn first_untold(
+    alloc: Global,
+    document: Document,
+    members: &[Spoiled],
+) -> Result<Option<usize>, Fail> {
+    let desk = desk(alloc)?;
+    for place in 0..members.len() {
+        let name = members[place].0;
+        let alone = is_bad_at(alloc, &desk, document, &members[place..place + 1], name)?;
+        let first = is_bad_at(alloc, &desk, document, &members[place..], name)?;
+        if !alone || !first {
+            return Ok(Some(place));
         }
     }
-    Ok(())
+    Ok(None)
 }
 
-#[test]
-fn each_member_of_a_transfer_is_tested(rt: HostRuntime) -> Result<(), Fail> {
-    let alloc = rt.alloc();
-    check_members(
-        &rt,
-        alloc,
-        "POST",
-        "/v0.10/transfer",
-        TRANSFER,
-        &[
-            ("DATA_TYPE", "\"delete\""),
-            ("submission_id", "null"),
-            ("source_endpoint", "\"x\""),
-            ("destination_endpoint", "7"),
-            ("label", "7"),
-            ("deadline", "\"1970-01-01T00:01:40Z\""),
-            ("sync_level", "0"),
-            ("verify_checksum", "1"),
-            ("preserve_timestamp", "\"true\""),
-            ("delete_destination_extra", "true"),
-            ("skip_source_errors", "[]"),
-            ("recursive_symlinks", "\"copy\""),
-            ("notify_on_succeeded", "0"),
-            ("notify_on_failed", "0"),
-            ("notify_on_inactive", "0"),
-            ("encrypt_data", "0"),
-            ("fail_on_quota_errors", "0"),
-            ("store_base_path_info", "0"),
-            ("filter_rules", "[{\"name\":\"*\"}]"),
-            ("DATA", "[]"),
-        ],
-    )
-}
-
-#[test]
-fn each_member_of_an_access_document_is_tested(rt: HostRuntime) -> Result<(), Fail> {
-    let alloc = rt.alloc();
-    check_members(
-        &rt,
-        alloc,
-        "POST",
-        ACCESS_LIST,
-        ACCESS,
-        &[
-            ("DATA_TYPE", "null"),
-            ("principal_type", "\"user\""),
-            ("principal", "null"),
-            ("path", "\"p\""),
-            ("permissions", "\"w\""),
-        ],
-    )?;
-    check_members(
-        &rt,
-        alloc,
-        "PUT",
-        RULE,
-        PERMISSION,
-        &[("DATA_TYPE", "\"transfer\""), ("permissions", "null")],
-    )
-}
-
-#[test]
-fn bad_values_and_good_ones(rt: HostRuntime) -> Result<(), Fail> {
-    let alloc = rt.alloc();
-    let longest = "\u{e9}".repeat(alloc, 128)?;
-    let label = format!(in alloc; "\"{longest}\"")?;
-    let longer = format!(in alloc; "\"{longest}e\"")?;
-    for (name, value, answer) in [
-        ("label", label.as_str(), "Ok"),
-        ("label", longer.as_str(), "BadRequest label"),
-        ("label", "\"\"", "Ok"),
-        ("label", "null", "Ok"),
-        ("deadline", "null", "Ok"),
-        ("sync_level", "null", "Ok"),
-        ("verify_checksum", "null", "Ok"),
-        ("delete_destination_extra", "false", "Ok"),
-        ("delete_destination_extra", "null", "Ok"),
-        ("recursive_symlinks", "\"ignore\"", "Ok"),
-        ("recursive_symlinks", "null", "Ok"),
-        ("encrypt_data", "null", "Ok"),
-        ("filter_rules", "[]", "Ok"),
-        ("filter_rules", "null", "Ok"),
-        ("filter_rules", "{}", "BadRequest filter_rules"),
-        ("anything", "[1.5]", "Ok"),
-        (
-            "submission_id",
-            "\"urn:uuid:00000007-0001-8000-8000-00000000000A\"",
-            "Ok",
-        ),
-        (
-            "source_endpoint",
-            "\"00000000-0000-4000-8000-0000000000c9\"",
-            "EndpointNotFound",
-        ),
-        ("DATA", "{}", "BadRequest DATA"),
-        ("DATA", "null", "BadRequest DATA"),
-        ("DATA", "[7]", "BadRequest DATA[0]"),
-    ] {
-        let body = spoiled(alloc, TRANSFER, &[(name, value)])?;
-        let told = told_of(alloc, "POST", "/v0.10/transfer", body.as_str())?;
-        assert_eq!(rt; told.as_str(), answer, "{}", body.as_str());
+// A transfer with these members behind its own, and behind the second of two entries.
+fn transfer(alloc: Global, members: &str, of_entry: &str) -> Result<String, Fail> {
+    let mut text = String::from_str(alloc, TRANSFER.text)?;
+    if !of_entry.is_empty() {
+        text.push_str(",\"DATA\":[")?;
+        text.push_str(ENTRY)?;
+        text.push_str("},")?;
+        text.push_str(ENTRY)?;
+        text.push_str(of_entry)?;
+        text.push_str("}]")?;
     }
-    for body in ["", "[]", "{", "{}x", "7"] {
-        let told = told_of(alloc, "POST", "/v0.10/transfer", body)?;
-        assert_eq!(rt; told.as_str(), "BadRequest body", "{body}");
-    }
-    Ok(())
+    text.push_str(members)?;
+    text.push('}')?;
+    Ok(text)
 }
 
-#[test]
-fn each_member_of_an_entry_is_tested(rt: HostRuntime) -> Result<(), Fail> {
-    let alloc = rt.alloc();
-    let one = "\"00000000-0000-4000-8000-0000000000c0\"";
-    for (name, value, destination, answer) in [
-        (
-            "DATA_TYPE",
-            "\"delete_item\"",
-            "null",
-            "BadRequest DATA[1].DATA_TYPE",
-        ),
-        (
-            "source_path",
-            "\"e\"",
-            "null",
-            "BadRequest DATA[1].source_path",
-        ),
-        ("source_path", "\"/~\"", "null", "Ok"),
-        (
-            "destination_path",
-            "7",
-            "null",
-            "BadRequest DATA[1].destination_path",
-        ),
-        ("recursive", "0", "null", "BadRequest DATA[1].recursive"),
-        ("recursive", "true", "null", "BadRequest DATA[1].recursive"),
-        ("recursive", "false", "null", "Ok"),
-        ("recursive", "null", "null", "Ok"),
-        (
-            "destination_path",
-            "\"/e/f\"",
-            one,
-            "BadRequest DATA[0].destination_path",
-        ),
-    ] {
-        let entry = spoiled(alloc, ENTRY, &[(name, value)])?;
-        let good = spoiled(alloc, ENTRY, &[])?;
-        let list = format!(in alloc; "[{good},{entry}]")?;
-        let mut members = Vec::new(alloc);
-        members.push(("DATA", list.as_str()))?;
-        if destination != "null" {
-            members.push(("destination_endpoint", destination))?;
+// Whether a transfer with these members is answered so.
+fn is_transfer(
+    alloc: Global,
+    desk: &Served,
+    members: &str,
+    of_entry: &str,
+    want: Want,
+) -> Result<bool, Fail> {
+    let body = transfer(alloc, members, of_entry)?;
+    Ok(is_told(alloc, desk, TRANSFER, body.as_bytes(), want))
+}
+
+// The place of the first members behind a transfer that are answered otherwise.
+fn first_wrong_value(alloc: Global, rows: &[Members]) -> Result<Option<usize>, Fail> {
+    let desk = desk(alloc)?;
+    for (place, (members, want)) in rows.iter().enumerate() {
+        if !is_transfer(alloc, &desk, members, "", *want)? {
+            return Ok(Some(place));
         }
-        let body = spoiled(alloc, TRANSFER, &members)?;
-        let told = told_of(alloc, "POST", "/v0.10/transfer", body.as_str())?;
-        assert_eq!(rt; told.as_str(), answer, "{}", body.as_str());
     }
-    Ok(())
+    Ok(None)
 }
 
-#[test]
-fn paths_overlap_on_one_collection(rt: HostRuntime) -> Result<(), Fail> {
-    let alloc = rt.alloc();
-    for (collection, source, destination, answer) in [
-        ("c0", "/a", "/b", "Ok"),
-        ("c0", "/a/b", "/a", "BadRequest DATA[0].destination_path"),
-        (
-            "c0",
-            "/~/b",
-            "/home/ann",
-            "BadRequest DATA[0].destination_path",
-        ),
-        ("c1", "/a", "/a", "Ok"),
-        ("c9", "/a", "/a", "EndpointNotFound"),
-    ] {
-        let endpoint = format!(in alloc; "\"00000000-0000-4000-8000-0000000000{collection}\"")?;
-        let list = format!(in alloc;
-            "[{{\"DATA_TYPE\":\"transfer_item\",\"source_path\":\"{source}\",\"destination_path\":\"{destination}\",\"recursive\":null}}]"
-        )?;
-        let body = spoiled(
-            alloc,
-            TRANSFER,
-            &[
-                ("destination_endpoint", endpoint.as_str()),
-                ("DATA", list.as_str()),
-            ],
-        )?;
-        let told = told_of(alloc, "POST", "/v0.10/transfer", body.as_str())?;
-        assert_eq!(rt; told.as_str(), answer, "{}", body.as_str());
+// The place of the first members behind an entry that are answered otherwise.
+fn first_wrong_entry(alloc: Global, rows: &[Members]) -> Result<Option<usize>, Fail> {
+    let desk = desk(alloc)?;
+    for (place, (members, want)) in rows.iter().enumerate() {
+        if !is_transfer(alloc, &desk, "", members, *want)? {
+            return Ok(Some(place));
+        }
     }
-    Ok(())
+    Ok(None)
 }
 
-// The entries of a document, so many of one kind.
-fn many(alloc: Global, count: usize) -> Result<String, Fail> {
-    let entry = spoiled(alloc, ENTRY, &[])?;
-    let mut list = String::from_str(alloc, "[")?;
+// A transfer of one entry to this collection.
+fn between(alloc: Global, sides: Sides) -> Result<String, Fail> {
+    let (collection, source, destination, _) = sides;
+    let mut text = String::from_str(alloc, TRANSFER.text)?;
+    text.push_str(",\"destination_endpoint\":\"00000000-0000-4000-8000-0000000000")?;
+    text.push_str(collection)?;
+    text.push_str("\",\"DATA\":[{\"DATA_TYPE\":\"transfer_item\",\"source_path\":\"")?;
+    text.push_str(source)?;
+    text.push_str("\",\"destination_path\":\"")?;
+    text.push_str(destination)?;
+    text.push_str("\"}]}")?;
+    Ok(text)
+}
+
+// The place of the first sides between which a transfer is answered otherwise.
+fn first_wrong_side(alloc: Global, rows: &[Sides]) -> Result<Option<usize>, Fail> {
+    let desk = desk(alloc)?;
+    for (place, row) in rows.iter().enumerate() {
+        let body = between(alloc, *row)?;
+        if !is_told(alloc, &desk, TRANSFER, body.as_bytes(), row.3) {
+            return Ok(Some(place));
+        }
+    }
+    Ok(None)
+}
+
+// Whether a transfer with a label of so many characters, of two bytes each, is answered so.
+fn is_labelled(alloc: Global, characters: usize, want: Want) -> Result<bool, Fail> {
+    let mut members = String::from_str(alloc, ",\"label\":\"")?;
+    members.push_str("\u{e9}".repeat(alloc, characters)?.as_str())?;
+    members.push('"')?;
+    is_transfer(alloc, &desk(alloc)?, members.as_str(), "", want)
+}
+
+// A list of so many entries.
+fn entries(alloc: Global, count: usize) -> Result<String, Fail> {
+    let mut list = String::from_str(alloc, ",\"DATA\":[")?;
     for at in 0..count {
         if at > 0 {
             list.push(',')?;
         }
-        list.push_str(entry.as_str())?;
+        list.push_str(ENTRY)?;
+        list.push('}')?;
     }
     list.push(']')?;
-    spoiled(alloc, TRANSFER, &[("DATA", list.as_str())])
+    Ok(list)
 }
 
-#[test]
-fn documents_have_1_to_10000_entries(rt: HostRuntime) -> Result<(), Fail> {
-    let alloc = rt.alloc();
-    let body = many(alloc, 10_001)?;
-    let told = told_of(alloc, "POST", "/v0.10/transfer", body.as_str())?;
-    assert_eq!(rt; told.as_str(), "BadRequest DATA");
-    let body = many(alloc, 10_000)?;
-    let answer = command(alloc, "POST", "/v0.10/transfer", body.as_str())?;
-    match &answer {
-        Ok(Command::SubmitTransfer { spec, .. }) => assert_eq!(rt; spec.entries.len(), 10_000),
-        _ => assert!(rt; false, "no submission"),
-    }
-    Ok(())
+// Whether a transfer of so many entries is answered so.
+fn is_counted(alloc: Global, count: usize, want: Want) -> Result<bool, Fail> {
+    let list = entries(alloc, count)?;
+    is_transfer(alloc, &desk(alloc)?, list.as_str(), "", want)
 }
 
-#[test]
-fn a_transfer_has_its_values(rt: HostRuntime) -> Result<(), Fail> {
-    let alloc = rt.alloc();
-    let body = spoiled(
-        alloc,
-        TRANSFER,
-        &[
-            ("verify_checksum", "true"),
-            ("skip_source_errors", "true"),
-            ("label", "\"first\""),
-            ("notify_on_failed", "true"),
-            ("store_base_path_info", "false"),
-            (
-                "DATA",
-                "[{\"DATA_TYPE\":\"transfer_item\",\"source_path\":\"/~/e\",\"destination_path\":\"/~/e\"}]",
-            ),
-        ],
+// Whether a transfer with spaces behind it, up to so many bytes, is answered so.
+fn is_sized(alloc: Global, bytes: usize, want: Want) -> Result<bool, Fail> {
+    let mut body = transfer(alloc, "", "")?;
+    body.push_str(
+        " ".repeat(alloc, bytes.saturating_sub(body.len()))?
+            .as_str(),
     )?;
-    let answer = command(alloc, "POST", "/v0.10/transfer", body.as_str())?;
-    match &answer {
-        Ok(Command::SubmitTransfer { submission, spec }) => {
-            assert!(rt; *submission == Id::made(7, 1, 1));
-            check_spec(&rt, alloc, spec)?;
-        }
-        _ => assert!(rt; false, "no submission"),
-    }
-    Ok(())
+    Ok(is_told(alloc, &desk(alloc)?, TRANSFER, body.as_bytes(), want))
 }
 
-// The specification has the values of the test above.
-fn check_spec(rt: &impl Abort, alloc: Global, spec: &TransferSpec) -> Result<(), Fail> {
-    assert_eq!(rt; spec.source, 0);
-    assert_eq!(rt; spec.destination, 1);
-    match &spec.label {
-        Some(label) => assert_eq!(rt; label.as_str(), "first"),
-        None => assert!(rt; false, "no label"),
+// The command of a request, made of routes for it alone.
+fn command(alloc: Global, method: &str, target: &str, body: &str) -> Result<Option<Command>, Fail> {
+    let setup = Setup::read(alloc, SETUP)?;
+    match read_request(alloc, &setup, method, target, Some("abc"), body.as_bytes()) {
+        Ok((_, command)) => Ok(Some(command)),
+        Err(_) => Ok(None),
     }
-    assert!(rt; spec.verify && spec.skip_source && !spec.preserve && !spec.extra);
-    assert_eq!(rt; spec.kept, Kept { given: 34, set: 2 });
-    for entry in spec.entries.as_slice() {
-        assert_eq!(rt; entry.source.print(alloc)?.as_str(), "/home/ann/e");
-        assert_eq!(rt; entry.destination.print(alloc)?.as_str(), "/e");
-        assert_eq!(rt; entry.recursive, None);
-    }
-    Ok(())
 }
 
-#[test]
-fn access_documents_have_their_values(rt: HostRuntime) -> Result<(), Fail> {
-    let alloc = rt.alloc();
-    for name in ["identity", "group", "all_authenticated_users", "anonymous"] {
-        let principal = match name {
-            "identity" => Principal::Identity(id(0xa1)),
-            "group" => Principal::Group(id(0xa1)),
-            "anonymous" => Principal::Anonymous,
-            _ => Principal::AllAuthenticated,
-        };
-        let name = format!(in alloc; "\"{name}\"")?;
-        let body = spoiled(
-            alloc,
-            ACCESS,
-            &[("principal_type", name.as_str()), ("path", "\"/~/p/\"")],
-        )?;
-        let answer = command(alloc, "POST", ACCESS_LIST, body.as_str())?;
-        match &answer {
-            Ok(Command::AddAccess { collection, spec }) => {
-                assert!(rt; *collection == 0 && spec.write);
-                assert!(rt; spec.principal == principal);
-                assert_eq!(rt; spec.path.print(alloc)?.as_str(), "/home/ann/p");
-            }
-            _ => assert!(rt; false, "no rule"),
+/// What a transfer asks.
+#[derive(Clone, Copy)]
+struct Sent {
+    source: u32,
+    destination: u32,
+    is_made: bool,
+    is_first: bool,
+    verify: bool,
+    preserve: bool,
+    skip_source: bool,
+    given: u8,
+    set: u8,
+    entries: usize,
+    at_home: usize,
+}
+
+// Whether the entry has these paths, and no word on folders.
+fn is_at_home(alloc: Global, entry: &TransferEntry) -> Result<bool, Fail> {
+    let source = entry.source.print(alloc)?;
+    let destination = entry.destination.print(alloc)?;
+    Ok(
+        source.as_str() == "/home/ann/e"
+            && destination.as_str() == "/e"
+            && entry.recursive.is_none(),
+    )
+}
+
+// How many of the entries lead from the home of ann.
+fn count_at_home(alloc: Global, entries: &[TransferEntry]) -> Result<usize, Fail> {
+    let mut count = 0;
+    for at in 0..entries.len() {
+        if is_at_home(alloc, &entries[at])? && count <= at {
+            count += 1;
         }
     }
-    // An identifier isn't read where the type has none.
-    let body = spoiled(
-        alloc,
-        ACCESS,
-        &[("principal_type", "\"anonymous\""), ("principal", "7")],
-    )?;
-    assert_eq!(rt;
-        told_of(alloc, "POST", ACCESS_LIST, body.as_str())?.as_str(),
-        "Ok"
-    );
+    Ok(count)
+}
+
+fn sent_of(alloc: Global, submission: Id, spec: &TransferSpec) -> Result<Sent, Fail> {
+    let is_first = match &spec.label {
+        Some(label) => label.as_str() == "first",
+        None => false,
+    };
+    let entries = spec.entries.as_slice();
+    Ok(Sent {
+        source: spec.source,
+        destination: spec.destination,
+        is_made: submission == Id::made(7, 1, 1),
+        is_first,
+        verify: spec.verify,
+        preserve: spec.preserve,
+        skip_source: spec.skip_source,
+        given: spec.kept.given,
+        set: spec.kept.set,
+        entries: entries.len(),
+        at_home: count_at_home(alloc, entries)?,
+    })
+}
+
+// What a transfer with these members asks.
+fn sent_by(alloc: Global, members: &str) -> Result<Option<Sent>, Fail> {
+    let body = transfer(alloc, members, "")?;
+    match command(alloc, "POST", TRANSFERS, body.as_str())? {
+        Some(Command::SubmitTransfer { submission, spec }) => {
+            Ok(Some(sent_of(alloc, submission, &spec)?))
+        }
+        _ => Ok(None),
+    }
+}
+
+// Whether the rule lets this principal write below `/home/ann/p`.
+fn lets_write(alloc: Global, spec: &AccessSpec, principal: Principal) -> Result<bool, Fail> {
+    let path = spec.path.print(alloc)?;
+    Ok(spec.write && spec.principal == principal && path.as_str() == "/home/ann/p")
+}
+
+// Whether a document with this type of principal, and its other members behind it, adds such a rule to the first collection.
+fn is_rule(alloc: Global, members: &str, principal: Principal) -> Result<bool, Fail> {
+    let mut body = String::from_str(alloc, ACCESS.text)?;
+    body.push_str(",\"path\":\"/~/p/\",\"principal_type\":")?;
+    body.push_str(members)?;
+    body.push('}')?;
+    match command(alloc, "POST", RULES, body.as_str())? {
+        Some(Command::AddAccess { collection, spec }) => {
+            Ok(collection == 0 && lets_write(alloc, &spec, principal)?)
+        }
+        _ => Ok(false),
+    }
+}
+
+// The page of tasks that a target asks for.
+fn page_of(alloc: Global, target: &str) -> Result<Option<(u32, u64)>, Fail> {
+    match command(alloc, "GET", target, "")? {
+        Some(Command::ListTasks { limit, offset }) => Ok(Some((limit, offset))),
+        _ => Ok(None),
+    }
+}
+
+const PAGES: [(&str, u32, u64); 6] = [
+    ("/v0.10/task_list", 100, 0),
+    ("/v0.10/task_list?", 100, 0),
+    (
+        "/v0.10/task_list?limit=1&offset=18446744073709551615",
+        1,
+        18_446_744_073_709_551_615,
+    ),
+    ("/v0.10/task_list?limit=1000&limit=0&x=%ff", 1000, 0),
+    ("/v0.10/task_list?%6Cimit=%37", 7, 0),
+    ("/v0.10/task_list?x=?&l%69mit=2&li+mit=3", 2, 0),
+];
+
+#[test]
+fn refusals_come_in_their_order(rt: HostRuntime) -> Result<(), Fail> {
+    assert_eq!(rt; first_wrong(rt.alloc(), &IN_ORDER)?, None);
     Ok(())
 }
 
 #[test]
 fn routes_have_their_methods(rt: HostRuntime) -> Result<(), Fail> {
+    assert_eq!(rt; first_wrong(rt.alloc(), &ROUTES)?, None);
+    Ok(())
+}
+
+#[test]
+fn each_member_of_a_document_is_tested(rt: HostRuntime) -> Result<(), Fail> {
     let alloc = rt.alloc();
-    let transfer = spoiled(alloc, TRANSFER, &[])?;
-    let access = spoiled(alloc, ACCESS, &[])?;
-    let permission = spoiled(alloc, PERMISSION, &[])?;
-    let endpoint = "/v0.10/endpoint/00000000-0000-4000-8000-0000000000c1";
-    let list = format!(in alloc; "{endpoint}/access_list")?;
-    let successes = format!(in alloc; "{TASK}/successful_transfers")?;
-    let skipped = format!(in alloc; "{TASK}/skipped_errors?offset=7")?;
-    let cancel = format!(in alloc; "{TASK}/cancel")?;
-    for (method, target, body, answer) in [
-        ("GET", "/v0.10/submission_id", "7", "Ok"),
-        ("GET", "/v0.10/submission_id?limit=0", "", "Ok"),
-        ("POST", "/v0.10/transfer", transfer.as_str(), "Ok"),
-        ("GET", "/v0.10/task_list", "", "Ok"),
-        ("GET", TASK, "", "Ok"),
-        ("GET", successes.as_str(), "", "Ok"),
-        ("GET", skipped.as_str(), "", "Ok"),
-        ("GET", endpoint, "", "Ok"),
-        ("GET", list.as_str(), "", "Ok"),
-        ("POST", ACCESS_LIST, access.as_str(), "Ok"),
-        ("GET", RULE, "", "Ok"),
-        ("DELETE", RULE, "", "Ok"),
-        ("PUT", RULE, permission.as_str(), "Ok"),
-        // Not of the path.
-        ("GET", "/v0.10/submission_id/", "", "NotFound"),
-        ("GET", "/v0.10/Submission_id", "", "NotFound"),
-        ("GET", "/v0.10/task/", "", "NotFound"),
-        ("GET", "/v0.10/task/a/b", "", "NotFound"),
-        ("GET", "", "", "NotFound"),
-        // Not of the method.
-        ("get", "/v0.10/submission_id", "", "MethodNotAllowed"),
-        ("POST", TASK, "", "MethodNotAllowed"),
-        ("DELETE", "/v0.10/transfer", "", "MethodNotAllowed"),
-        ("HEAD", RULE, "", "MethodNotAllowed"),
-        // No resources of this desk.
-        ("POST", "/v0.10/delete", "", "NotFound"),
-        ("GET", "/v0.10/delete", "", "NotFound"),
-        ("PUT", TASK, "", "NotFound"),
-        ("POST", cancel.as_str(), "", "NotFound"),
-        (
-            "GET",
-            "/v0.10/endpoint_manager/pause_rule_list",
-            "",
-            "NotFound",
-        ),
-        ("POST", "/v0.10/endpoint_manager/pause_rule", "", "NotFound"),
-        (
-            "DELETE",
-            "/v0.10/endpoint_manager/pause_rule/x",
-            "",
-            "NotFound",
-        ),
-    ] {
-        let told = told_of(alloc, method, target, body)?;
-        assert_eq!(rt; told.as_str(), answer, "{method} {target}");
-    }
+    assert_eq!(rt; first_untold(alloc, TRANSFER, &OF_TRANSFER)?, None);
+    assert_eq!(rt; first_untold(alloc, ACCESS, &OF_ACCESS)?, None);
+    assert_eq!(rt; first_untold(alloc, PERMISSION, &OF_PERMISSION)?, None);
+    Ok(())
+}
+
+#[test]
+fn members_have_their_values(rt: HostRuntime) -> Result<(), Fail> {
+    let alloc = rt.alloc();
+    assert_eq!(rt; first_wrong_value(alloc, &VALUES)?, None);
+    assert_eq!(rt; first_wrong_entry(alloc, &ENTRIES)?, None);
+    assert_eq!(rt; first_wrong_side(alloc, &SIDES)?, None);
+    Ok(())
+}
+
+#[test]
+fn limits_are_met_and_passed(rt: HostRuntime) -> Result<(), Fail> {
+    let alloc = rt.alloc();
+    assert!(rt; is_labelled(alloc, 128, Want::Read)?);
+    assert!(rt; is_labelled(alloc, 129, Want::Bad("label"))?);
+    assert!(rt; is_counted(alloc, 0, Want::Bad("DATA"))?);
+    assert!(rt; is_counted(alloc, 1, Want::Read)?);
+    assert!(rt; is_counted(alloc, 10_000, Want::Read)?);
+    assert!(rt; is_counted(alloc, 10_001, Want::Bad("DATA"))?);
+    assert!(rt; is_sized(alloc, 4_194_304, Want::Read)?);
+    assert!(rt; is_sized(alloc, 4_194_305, Want::Refused(ReplyCode::TooLarge))?);
+    Ok(())
+}
+
+// Two entries, and the members without effect that the flags of bits 2 and 32 stand for.
+const MEMBERS: &str =
+    ",\"verify_checksum\":true,\"skip_source_errors\":true,\"label\":\"first\",\"notify_on_failed\":true,\"store_base_path_info\":false,\"DATA\":[{\"DATA_TYPE\":\"transfer_item\",\"source_path\":\"/~/e\",\"destination_path\":\"/~/e\"},{\"DATA_TYPE\":\"transfer_item\",\"source_path\":\"/~/e\",\"destination_path\":\"/e/\"}]";
+
+#[test]
+fn a_transfer_has_its_values(rt: HostRuntime) -> Result<(), Fail> {
+    let Some(sent) = sent_by(rt.alloc(), MEMBERS)? else {
+        return Err("no transfer")?;
+    };
+    assert_eq!(rt; sent.source, 0);
+    assert_eq!(rt; sent.destination, 1);
+    assert!(rt; sent.is_made && sent.is_first);
+    assert!(rt; sent.verify && sent.skip_source && !sent.preserve);
+    assert_eq!(rt; sent.given, 34);
+    assert_eq!(rt; sent.set, 2);
+    assert_eq!(rt; sent.entries, 2);
+    assert_eq!(rt; sent.at_home, 2);
+    Ok(())
+}
+
+#[test]
+fn rules_have_their_principals(rt: HostRuntime) -> Result<(), Fail> {
+    let alloc = rt.alloc();
+    assert!(rt; is_rule(alloc, "\"identity\"", Principal::Identity(id(0xa1)))?);
+    assert!(rt; is_rule(alloc, "\"group\"", Principal::Group(id(0xa1)))?);
+    let everybody = "\"all_authenticated_users\",\"principal\":null";
+    assert!(rt; is_rule(alloc, everybody, Principal::AllAuthenticated)?);
+    // An identifier isn't read where the type has none.
+    assert!(rt; is_rule(alloc, "\"anonymous\",\"principal\":7", Principal::Anonymous)?);
     Ok(())
 }
 
 #[test]
 fn queries_ask_for_pages(rt: HostRuntime) -> Result<(), Fail> {
-    let alloc = rt.alloc();
-    for (query, limit, offset) in [
-        ("", 100, 0),
-        ("?", 100, 0),
-        (
-            "?limit=1&offset=18446744073709551615",
-            1,
-            18_446_744_073_709_551_615,
-        ),
-        ("?limit=1000&limit=0&x=%ff", 1000, 0),
-        ("?%6Cimit=%37", 7, 0),
-        ("?offset=5?&limit=2", 0, 0),
-        ("?limit=0", 0, 0),
-        ("?limit=1001", 0, 0),
-        ("?limit=007", 0, 0),
-        ("?limit=%2B5", 0, 0),
-        ("?limit", 0, 0),
-        ("?limit=&limit=5", 0, 0),
-        ("?offset=18446744073709551616", 0, 0),
-    ] {
-        let target = format!(in alloc; "/v0.10/task_list{query}")?;
-        let answer = command(alloc, "GET", target.as_str(), "")?;
-        match &answer {
-            Ok(
-                Command::ListTasks {
-                    limit: rows,
-                    offset: after,
-                },
-            ) => {
-                assert_eq!(rt; *rows, limit, "{query}");
-                assert_eq!(rt; *after, offset, "{query}");
-            }
-            _ => {
-                assert_eq!(rt; 0, limit, "{query}");
-                assert_eq!(rt; told(alloc, &answer)?.as_str(), "BadRequest query");
-            }
-        }
-    }
-    Ok(())
-}
-
-#[test]
-fn the_first_refusal_wins(rt: HostRuntime) -> Result<(), Fail> {
-    let alloc = rt.alloc();
-    let setup = worked_setup(alloc)?;
-    let refusals = [
-        "TooLarge",
-        "NotFound",
-        "MethodNotAllowed",
-        "AuthenticationFailed",
-        "BadRequest permissions",
-        "EndpointNotFound",
-        "RuleNotFound",
-    ];
-    for first in 0..7 {
-        for second in first..7 {
-            let name = if first == 1 || second == 1 {
-                "point"
-            } else {
-                "endpoint"
-            };
-            let last = if first == 5 || second == 5 {
-                "c9"
-            } else {
-                "c0"
-            };
-            let rule = if first == 6 || second == 6 {
-                "x"
-            } else {
-                "00000007-0003-8000-8000-000000000001"
-            };
-            let target = format!(in alloc;
-                "/v0.10/{name}/00000000-0000-4000-8000-0000000000{last}/access/{rule}"
-            )?;
-            let method = if first == 2 || second == 2 {
-                "POST"
-            } else {
-                "PUT"
-            };
-            let token = if first == 3 || second == 3 {
-                "hello"
-            } else {
-                "abc"
-            };
-            let permissions = if first == 4 || second == 4 {
-                "7"
-            } else {
-                "\"r\""
-            };
-            let mut body = spoiled(alloc, PERMISSION, &[("permissions", permissions)])?;
-            if first == 0 {
-                body = " ".repeat(alloc, 4_194_305)?;
-            }
-            let answer = ask(
-                alloc,
-                &setup,
-                method,
-                target.as_str(),
-                Some(token),
-                body.as_str(),
-            );
-            assert_eq!(rt;
-                told(alloc, &answer)?.as_str(),
-                refusals[first],
-                "{first} {second}"
-            );
-        }
-    }
-    Ok(())
-}
-
-#[test]
-fn other_refusals_in_order(rt: HostRuntime) -> Result<(), Fail> {
-    let alloc = rt.alloc();
-    let unknown = spoiled(
-        alloc,
-        TRANSFER,
-        &[
-            (
-                "source_endpoint",
-                "\"00000000-0000-4000-8000-0000000000c9\"",
-            ),
-            ("DATA", "[]"),
-        ],
-    )?;
-    for (method, target, body, answer) in [
-        (
-            "GET",
-            "/v0.10/task/x/skipped_errors?limit=0",
-            "",
-            "BadRequest query",
-        ),
-        ("GET", "/v0.10/task/x/skipped_errors", "", "TaskNotFound"),
-        ("GET", "/v0.10/task/x", "", "TaskNotFound"),
-        ("GET", "/v0.10/endpoint/x", "", "EndpointNotFound"),
-        (
-            "POST",
-            "/v0.10/endpoint/x/access",
-            "{}",
-            "BadRequest DATA_TYPE",
-        ),
-        (
-            "POST",
-            "/v0.10/transfer",
-            unknown.as_str(),
-            "BadRequest DATA",
-        ),
-    ] {
-        let told = told_of(alloc, method, target, body)?;
-        assert_eq!(rt; told.as_str(), answer, "{method} {target}");
-    }
-    Ok(())
-}
-
-#[test]
-fn requests_come_in(rt: HostRuntime) -> Result<(), Fail> {
-    let alloc = rt.alloc();
-    let incoming = Incoming {
-        method: Text::copy_of(alloc, "GET")?,
-        target: Text::copy_of(alloc, "/v0.10/submission_id")?,
-        token: Some(Text::copy_of(alloc, "abc")?),
-        body: Bytes::from_vec(Vec::new(alloc)),
-        close: false,
-    };
-    let setup = worked_setup(alloc)?;
-    let token = match &incoming.token {
-        Some(token) => Some(token.as_str()),
-        None => None,
-    };
-    let answer = read_request(
-        alloc,
-        &setup,
-        incoming.method.as_str(),
-        incoming.target.as_str(),
-        token,
-        incoming.body.as_slice(),
-    );
-    match &answer {
-        Ok((caller, Command::IssueId)) => assert!(rt; *caller == id(0xa1)),
-        _ => assert!(rt; false, "no identifier is asked"),
+    for (target, limit, offset) in PAGES {
+        assert_eq!(rt; page_of(rt.alloc(), target)?, Some((limit, offset)));
     }
     Ok(())
 }
