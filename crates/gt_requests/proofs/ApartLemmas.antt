@@ -1,9 +1,9 @@
 -- No path is at two resources.
-use Rattle.std.proofs.Common.{◌≡◌, ◌≤◌, ℕ, zero, suc, List, [], ◌∷◌, length, ◌==◌, ◌&&◌, not, Bool, true, false, cond, Option, Some, None, refl, sym, ap, ◌∙◌, subst, true≢false, arith}
+use Rattle.std.proofs.Common.{◌≡◌, ◌≤◌, ℕ, zero, suc, List, [], ◌∷◌, length, ◌==◌, ◌&&◌, not, Bool, true, false, cond, Some, None, refl, sym, ap, ◌∙◌, subst, true≢false, arith}
 use Rattle.std.proofs.lemmas.Bool.{eqb-true, eq-eqb}
 use Rattle.matchit.specs.Rows.{param_token}
 use Rattle.matchit.specs.Seek.{slash}
-use Rattle.gt_requests.specs.Resources.{is_over, fits, pattern, is_at, find_resource, resources}
+use Rattle.gt_requests.specs.Resources.{fits, pattern, is_at, find_resource, resources}
 use Rattle.gt_requests.specs.declared.resource.Resource.{Resource}
 use Rattle.gt_requests.proofs.ResourceLemmas.{At, listed}
 use Rattle.gt_requests.proofs.SeekLemmas.{both_first, both_second, rest_at, short-rest, fits-inside, not-true, over-nil}

@@ -1,12 +1,12 @@
 -- The first bad member is told.
-use Rattle.std.proofs.Common.{◌≡◌, ◌∙◌, ◌++◌, ◌+◌, ℕ, List, [], ◌∷◌, Bool, true, false, not, ◌&&◌, Option, Some, None, Result, Ok, Err, is_none, is_ok, if◌then◌else◌, ap, codes, refl, sym, ok_or}
+use Rattle.std.proofs.Common.{◌≡◌, ◌∙◌, ◌++◌, ◌+◌, ℕ, List, [], ◌∷◌, Bool, true, false, not, ◌&&◌, Option, Some, None, Result, Ok, Err, is_none, is_ok, if◌then◌else◌, codes, refl, sym, ok_or}
 use Rattle.std.specs.Option.{option_and_then, option_map_or}
 use Rattle.std.specs.Prelude.{unwrap_or}
 use Rattle.serde_json.specs.Data.{Data, Items, Members, item, no_items, object}
 use Rattle.serde_json.specs.Find.{as_bool}
 use Rattle.gt_documents.specs.Lists.{is_count, items_at, items_from, items_of, listed, within}
 use Rattle.gt_documents.specs.Members.{absent_at, constant_at, default_at, flag_at, id_at, if_given, is_text, member_of, object_at, path_at, switch_at, text_if, unset_at, word_at}
-use Rattle.gt_documents.specs.Place.{Place, in_item, member_place}
+use Rattle.gt_documents.specs.Place.{Place, member_place}
 use Rattle.gt_documents.specs.Reading.{unless_not}
 use Rattle.gt_documents.specs.Values as values
 use Rattle.gt_documents.specs.declared.values.TextLimit.{TextLimit}
@@ -18,9 +18,9 @@ use Rattle.gt_types.specs.declared.kept.Kept.{Kept}
 use Rattle.gt_types.specs.declared.kept.KeptMember.{KeptMember}
 use Rattle.gt_values.specs.Results.{◌>>=◌}
 use Rattle.gt_requests.specs.Access.{access_of, permission_of, principal_as, principal_at, type_at, type_of, write_at, write_of}
-use Rattle.gt_requests.specs.Entries.{Sides, entries_of, entry_of}
+use Rattle.gt_requests.specs.Entries.{Sides, apart_at, entries_of, entry_of}
 use Rattle.gt_requests.specs.Laws.{FirstBadMember}
-use Rattle.gt_requests.specs.Rows.{Row, access_rows, bad_member, destination_at, ends_rows, entry_rows, first_bad, flags_rows, kept_rows, options_rows, outermost, permission_rows, row, transfer_rows}
+use Rattle.gt_requests.specs.Rows.{Row, access_rows, bad_member, ends_rows, entry_rows, first_bad, flags_rows, kept_rows, options_rows, outermost, permission_rows, row, transfer_rows}
 use Rattle.gt_requests.specs.Shared.{kept_among, kept_at}
 use Rattle.gt_requests.specs.Transfer.{are_none, ends_of, flags_of, no_rules_at, options_of, sides_of, submission_of}
 use Rattle.gt_requests.specs.declared.access.PrincipalType.{PrincipalType}
@@ -208,30 +208,34 @@ transfer_told setup d =
     then_rows (options_of d) _ (options_rows d) entries (options_told d) (λ options is.
     rw are (then_row (codes "DATA") (entries_of (sides_of setup ends) d) _ _ (entries_tells (sides_of setup ends) d) (λ all. refl)))))
 
-apart_told : {A : Type 0} (name : List ℕ) (holds : Bool) (x : Result A Place) (rest : Option (List ℕ)) → bad_member x ≡ rest
-    → bad_member (unless_not holds (member_place name) >>= λ _. x) ≡ (if is_ok (unless_not holds (member_place name)) then rest else Some name)
-apart_told name true x rest h = h
-apart_told name false x rest h = refl
+apart_told : {A : Type 0} (holds : Bool) (u : Result (Option Bool) Place) (f : Option Bool → Result A Place) → Tells (codes "recursive") u
+    → ((r : Option Bool) → bad_member (f r) ≡ None)
+    → bad_member ((unless_not holds (member_place (codes "destination_path")) >>= λ _. u) >>= f)
+    ≡ (if is_ok (unless_not holds (member_place (codes "destination_path"))) then (if is_ok u then None else Some (codes "recursive"))
+    else Some (codes "destination_path"))
+apart_told true u f h k = then_row (codes "recursive") u f None h k
+apart_told false u f h k = refl
 
--- the two paths of an entry, by what they are read as
-paths_told : {A : Type 0} (one : Bool) (s t : Result PathValue Place) (f : PathValue → PathValue → Result A Place) (rest : Option (List ℕ))
-    → Tells (codes "source_path") s → Tells (codes "destination_path") t → ((a b : PathValue) → bad_member (f a b) ≡ rest)
-    → bad_member (s >>= λ a. t >>= λ b. unless_not (not (one && overlaps a b)) (member_place (codes "destination_path")) >>= λ _. f a b)
+-- the two paths of an entry and what stands behind them, by what they are read as
+paths_told : {A : Type 0} (one : Bool) (s t : Result PathValue Place) (u : Result (Option Bool) Place) (f : PathValue → PathValue → Option Bool → Result A Place)
+    → Tells (codes "source_path") s → Tells (codes "destination_path") t → Tells (codes "recursive") u
+    → ((a b : PathValue) (r : Option Bool) → bad_member (f a b r) ≡ None)
+    → bad_member (s >>= λ a. t >>= λ b. (apart_at one a b >>= λ _. u) >>= f a b)
     ≡ (if is_ok s
-    then (if is_ok (s >>= λ a. t >>= λ b. unless_not (not (one && overlaps a b)) (member_place (codes "destination_path"))) then rest else Some (codes "destination_path"))
+    then (if is_ok (s >>= λ a. t >>= λ b. apart_at one a b) then (if is_ok u then None else Some (codes "recursive")) else Some (codes "destination_path"))
     else Some (codes "source_path"))
-paths_told one (Err place) t f rest h k all = h
-paths_told one (Ok a) (Err place) f rest h k all = k
-paths_told one (Ok a) (Ok b) f rest h k all = apart_told (codes "destination_path") (not (one && overlaps a b)) (f a b) rest (all a b)
+paths_told one (Err place) t u f h k l all = h
+paths_told one (Ok a) (Err place) u f h k l all = k
+paths_told one (Ok a) (Ok b) u f h k l all = apart_told (not (one && overlaps a b)) u (f a b) l (all a b)
 
 entry_told : (sides : Sides) (ms : Members) → bad_member (entry_of sides (object ms)) ≡ first_bad (entry_rows sides (object ms))
 unfolding entry_of object_at
 entry_told sides ms =
     let d : Data = object ms in
     then_row (codes "DATA_TYPE") (constant_at (codes "transfer_item") d (codes "DATA_TYPE")) _ _ (constant_tells (codes "transfer_item") d (codes "DATA_TYPE")) (λ same.
-    paths_told sides.are_one (path_at sides.source d (codes "source_path")) (path_at sides.destination d (codes "destination_path")) _ _
-    (path_tells sides.source d (codes "source_path")) (path_tells sides.destination d (codes "destination_path")) (λ source destination.
-    then_row (codes "recursive") (unset_at d (codes "recursive")) _ _ (unset_tells d (codes "recursive")) (λ recursive. refl)))
+    paths_told sides.are_one (path_at sides.source d (codes "source_path")) (path_at sides.destination d (codes "destination_path")) (unset_at d (codes "recursive")) _
+    (path_tells sides.source d (codes "source_path")) (path_tells sides.destination d (codes "destination_path")) (unset_tells d (codes "recursive"))
+    (λ source destination recursive. refl))
 
 principal_tells : (kind : PrincipalType) (d : Data) → Tells (codes "principal") (principal_as kind d)
 principal_tells type.Identity d = then_tells (codes "principal") (id_at d (codes "principal")) _ (id_tells d (codes "principal")) (λ id. refl)

@@ -1,5 +1,5 @@
 -- The first cause refuses.
-use Rattle.std.proofs.Common.{◌≡◌, ℕ, Bool, true, false, true≢false, cond, not, ◌||◌, List, [], ◌∷◌, length, Option, Some, None, Result, Ok, Err, is_err, is_none, refl, sym, ap, ◌∙◌, nat_le, ok_or}
+use Rattle.std.proofs.Common.{◌≡◌, ℕ, Bool, true, false, cond, not, ◌||◌, List, [], ◌∷◌, length, Option, Some, None, Result, Ok, Err, is_err, is_none, refl, ap, ◌∙◌, nat_le, ok_or}
 use Rattle.std.specs.Option.{option_map_or}
 use Rattle.std.specs.Result.{result_map_both, result_ok}
 use Rattle.gt_documents.specs.Members.{object_of}
@@ -16,7 +16,7 @@ use Rattle.gt_types.specs.declared.rule.AccessSpec.{AccessSpec}
 use Rattle.gt_values.specs.Results.{◌>>=◌}
 use Rattle.gt_requests.specs.Access.{access_of, permission_of}
 use Rattle.gt_requests.specs.Actions.{action_at, action_of, method_of}
-use Rattle.gt_requests.specs.Causes.{Asked, FirstCauseRefuses, action_in, causes, code_of, first_cause, is_bad, is_no_route, is_task_put, lacks_collection, lacks_ends, lacks_rule, lacks_task, of_action}
+use Rattle.gt_requests.specs.Causes.{Asked, FirstCauseRefuses, action_in, code_of, first_cause, is_bad, is_no_route, is_task_put, lacks_collection, lacks_ends, lacks_rule, lacks_task, of_action}
 use Rattle.gt_requests.specs.Request.{add_access_of, caller_of, collection_with, command_of, document, known_in, read_of, replace_access_of, request_of, route_of, rows_of, rule_of, submit_of, tasks_of, told}
 use Rattle.gt_requests.specs.Resources.{resource_at}
 use Rattle.gt_requests.specs.Target.{front_of, piece_id, query_of}

@@ -17,7 +17,7 @@ use Rattle.gt_setup.specs.Setup.{Setup}
 use Rattle.gt_values.specs.Results.{◌>>=◌}
 use Rattle.gt_requests.specs.Access.{access_of, permission_of, principal_as, principal_at, type_at, write_at}
 use Rattle.gt_requests.specs.Entries.{Sides, entries_of, entry_of}
-use Rattle.gt_requests.specs.Laws.{ReadsOnly, UnknownMembersChangeNothing}
+use Rattle.gt_requests.specs.Laws.{UnknownMembersChangeNothing}
 use Rattle.gt_requests.specs.Rows.{Row, access_rows, entry_rows, names_of, permission_rows, transfer_rows}
 use Rattle.gt_requests.specs.Shared.{kept_at}
 use Rattle.gt_requests.specs.Transfer.{ends_of, flags_of, no_rules_at, options_of, sides_of, submission_of}

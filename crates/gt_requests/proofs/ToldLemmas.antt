@@ -1,9 +1,11 @@
 -- How a fault of a reading is told.
-use Rattle.std.proofs.Common.{◌≡◌, ◌≤◌, ◌⊎◌, inl, inr, ℕ, Result, Ok, Err, refl, sym, ap, subst}
+use Rattle.std.proofs.Common.{◌≡◌, ◌<◌, ◌≤◌, ◌⊎◌, inl, inr, ℕ, List, Option, Result, Err, length, sym, ap, subst}
+use Rattle.std.proofs.lemmas.Bool.{lt-leb}
 use Rattle.std.specs.Result.{result_map_both}
+use Rattle.gt_setup.specs.Setup.{Setup}
 use Rattle.gt_types.specs.declared.reply.ReplyCode.TheVariants.{TooLarge}
 use Rattle.gt_requests.specs.Outcome.{Gives, IsTold}
-use Rattle.gt_requests.specs.Request.{told}
+use Rattle.gt_requests.specs.Request.{read_of, request_of, told}
 use Rattle.gt_requests.specs.declared.fault.RequestFault.{RequestFault}
 use Rattle.gt_requests.specs.declared.fault.RequestFault.TheVariants as request
 use Rattle.gt_requests.specs.declared.refusal.ReadFault.{ReadFault}
@@ -21,6 +23,12 @@ told_fault said (fault.Refusal (refusal.Bad place)) result g (inr t) = inl t
 
 is_told_plain : (result : RequestFault) → IsTold (fault.Refusal (refusal.Plain TooLarge)) result → result ≡ request.OutOfMemory → ⊥
 is_told_plain result t e = absurd (cc (t, e))
+
+-- a long body is refused whatever else the request has
+pub long_body : (setup : Setup) (method target : List ℕ) (token : Option (List ℕ)) (body : List ℕ) → 4194304 < length body
+    → request_of setup method target token body ≡ Err (told (refusal.Plain TooLarge))
+unfolding request_of read_of
+long_body setup method target token body h = rw (lt-leb (length body) 4194304 h)
 
 -- where memory was wanted, the body wasn't too long
 pub told_memory : (f : ReadFault) (result : RequestFault) (bytes : ℕ) → IsTold f result → (f ≡ fault.Refusal (refusal.Plain TooLarge)) ⊎ (bytes ≤ 4194304)

@@ -1,5 +1,5 @@
 -- The access documents, whose members are tested in this order.
-use Rattle.std.specs.Prelude.{Bool, Err, List, None, Ok, Option, Result, Some, codes, false, if◌then◌else◌, ok_or, option_and_then, true, ℕ}
+use Rattle.std.specs.Prelude.{Bool, List, None, Ok, Option, Result, Some, codes, false, if◌then◌else◌, ok_or, option_and_then, true, ℕ}
 use Rattle.std.specs.Str.{bytes_eq}
 use Rattle.serde_json.specs.Data.{Data}
 use Rattle.gt_documents.specs.Members.{constant_at, id_at, path_at, word_at}

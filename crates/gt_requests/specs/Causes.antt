@@ -1,5 +1,5 @@
 -- When a request is refused that needs no state: the causes, in their order.
-use Rattle.std.specs.Prelude.{Bool, Err, List, None, Ok, Option, Result, Some, [], false, if◌then◌else◌, is_err, is_none, length, nat_le, not, option_and_then, true, ℕ, ◌||◌, ◌≡◌, ◌∷◌}
+use Rattle.std.specs.Prelude.{Bool, Err, List, None, Ok, Option, Result, Some, [], false, if◌then◌else◌, is_err, is_none, length, nat_le, not, true, ℕ, ◌||◌, ◌≡◌, ◌∷◌}
 use Rattle.std.specs.Option.{option_map_or}
 use Rattle.std.specs.Result.{result_ok}
 use Rattle.gt_documents.specs.Members.{object_of}

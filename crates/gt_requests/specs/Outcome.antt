@@ -1,5 +1,5 @@
 -- What the code gives for a reading.
-use Rattle.std.specs.Prelude.{Err, Ok, Option, None, Result, Some, ⊤, ◌≡◌, ◌⊎◌}
+use Rattle.std.specs.Prelude.{Err, Ok, Result, ⊤, ◌≡◌, ◌⊎◌}
 use Rattle.gt_requests.specs.Request.{told}
 use Rattle.gt_documents.specs.declared.fault.DocumentFault.{DocumentFault}
 use Rattle.gt_documents.specs.declared.fault.DocumentFault.TheVariants as document

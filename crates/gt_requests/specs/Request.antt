@@ -4,7 +4,6 @@ use Rattle.std.specs.Result.{result_map_both}
 use Rattle.gt_setup.specs.Setup.{Setup, collection_of, identity_of}
 use Rattle.gt_types.specs.declared.command.Command.{Command}
 use Rattle.gt_types.specs.declared.command.Command.TheVariants.{AddAccess, EndAccess, IssueId, ListAccess, ListSkipped, ListSuccesses, ListTasks, ReplaceAccess, ShowAccess, ShowEndpoint, ShowTask, SubmitTransfer}
-use Rattle.gt_types.specs.declared.reply.ReplyCode.{ReplyCode}
 use Rattle.gt_types.specs.declared.reply.ReplyCode.TheVariants.{AuthenticationFailed, BadRequest, EndpointNotFound, NotFound, RuleNotFound, TaskNotFound, TooLarge}
 use Rattle.gt_documents.specs.Members.{object_of}
 use Rattle.gt_documents.specs.Place.{Place, place_text}

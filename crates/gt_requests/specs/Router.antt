@@ -1,5 +1,5 @@
 -- The router that has the routes.
-use Rattle.std.specs.Prelude.{Bool, Err, List, Ok, Result, [], false, is_none, true, ℕ, ◌&&◌, ◌∷◌}
+use Rattle.std.specs.Prelude.{Bool, Err, List, Ok, Result, [], false, is_none, true, ◌&&◌, ◌∷◌}
 use Rattle.matchit.specs.Order.{placed}
 use Rattle.matchit.specs.Route.{Scan, parse_route}
 use Rattle.matchit.specs.Router.{RouteOf, nearest, route_from}

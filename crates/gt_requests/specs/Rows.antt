@@ -1,17 +1,16 @@
 -- The table of each document: a row a member, in the order in which they are tested, with whether the member is good.
-use Rattle.std.specs.Prelude.{Bool, Err, List, None, Ok, Option, Result, Some, [], codes, false, if◌then◌else◌, is_ok, map, not, ℕ, ◌&&◌, ◌++◌, ◌∷◌}
+use Rattle.std.specs.Prelude.{Bool, Err, List, None, Ok, Option, Result, Some, [], codes, false, if◌then◌else◌, is_ok, map, ℕ, ◌++◌, ◌∷◌}
 use Rattle.serde_json.specs.Data.{Data}
 use Rattle.gt_documents.specs.Members.{absent_at, constant_at, default_at, flag_at, id_at, path_at, switch_at, unset_at}
-use Rattle.gt_documents.specs.Place.{Place, member_place}
-use Rattle.gt_documents.specs.declared.place.Step.TheVariants.{Item, Member}
-use Rattle.gt_documents.specs.Reading.{unless_not}
-use Rattle.gt_paths.specs.Path.{PathValue, overlaps}
+use Rattle.gt_documents.specs.Place.{Place}
+use Rattle.gt_documents.specs.declared.place.Step.TheVariants.{Member}
+use Rattle.gt_paths.specs.Path.{PathValue}
 use Rattle.gt_setup.specs.Setup.{Setup}
 use Rattle.gt_types.specs.Kept.{kept_members, name_of}
 use Rattle.gt_types.specs.declared.kept.KeptMember.{KeptMember}
 use Rattle.gt_values.specs.Results.{◌>>=◌}
 use Rattle.gt_requests.specs.Access.{principal_at, type_at, write_at}
-use Rattle.gt_requests.specs.Entries.{Sides, entries_of}
+use Rattle.gt_requests.specs.Entries.{Sides, apart_at, entries_of}
 use Rattle.gt_requests.specs.Shared.{deadline_at, label_at}
 use Rattle.gt_requests.specs.Transfer.{ends_of, no_rules_at, sides_of}
 
@@ -66,7 +65,7 @@ abbrev pub destination_at : Sides → Data → Result Unit Place
 destination_at sides d = do
   source ← path_at sides.source d (codes "source_path")
   destination ← path_at sides.destination d (codes "destination_path")
-  unless_not (not (sides.are_one && overlaps source destination)) (member_place (codes "destination_path"))
+  apart_at sides.are_one source destination
 
 -- of an entry of a transfer
 abbrev pub entry_rows : Sides → Data → List Row

@@ -1,10 +1,11 @@
 //! The entries of a transfer document.
 ghost use Rattle.gt_documents.specs.Reading.{ReadsAs};
-ghost use Rattle.gt_requests.specs.Entries.{entries_of, entry_of, sides_between};
+ghost use Rattle.gt_paths.specs.Path.{overlaps};
+ghost use Rattle.gt_requests.specs.Entries.{entries_of, entry_of, recursive_at, sides_between};
 ghost use Rattle.gt_types.specs.Forms.{is_entries};
 ghost use Rattle.gt_types.specs.SpecForms.{is_transfer_entry};
 ghost use Rattle.serde_json.specs.View.{view};
-ghost use Rattle.std.specs.Prelude.{◌≡◌, IfOk, true};
+ghost use Rattle.std.specs.Prelude.{◌≡◌, ◌&&◌, IfOk, not, true};
 
 use gt_documents::{DocumentFault, Place, ReadItem, constant, is_object, items, path, unset};
 use gt_paths::Path;
@@ -68,13 +69,29 @@ fn read_entry(
     constant(value, "DATA_TYPE", "transfer_item")?;
     let source = path(alloc, value, "source_path", source)?;
     let destination = path(alloc, value, "destination_path", destination)?;
-    if are_one && source.overlaps(&destination) {
-        return Err(DocumentFault::Bad(Place::member("destination_path")));
+    match read_recursive(value, are_one, &source, &destination) {
+        Ok(recursive) => Ok(TransferEntry {
+            source,
+            destination,
+            recursive,
+        }),
+        Err(place) => Err(DocumentFault::Bad(place)),
     }
-    let recursive = unset(value, "recursive")?;
-    Ok(TransferEntry {
-        source,
-        destination,
-        recursive,
-    })
+}
+
+// Whether an entry of these paths is said to be no folder. On one collection they are tested first.
+fn read_recursive(
+    value: &Value,
+    are_one: bool,
+    source: &Path,
+    destination: &Path,
+) -> Result<Option<bool>, Place>
+    ensures value { result ≡ recursive_at are_one source.now destination.now (view value.now) }
+    ensures good { IfOk result
+        (λ _. not (are_one && overlaps source.now destination.now) ≡ true) }
+{
+    if are_one && source.overlaps(destination) {
+        return Err(Place::member("destination_path"));
+    }
+    unset(value, "recursive")
 }

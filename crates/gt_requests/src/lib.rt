@@ -20,8 +20,6 @@ mod router;
 mod routes;
 mod shared;
 mod target;
-#[cfg(test)]
-mod tests;
 mod transfer;
 
 pub use fault::RequestFault;

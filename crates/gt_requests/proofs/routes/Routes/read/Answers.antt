@@ -1,6 +1,4 @@
-use Rattle.std.proofs.Common.{◌≡◌, Err}
 use Rattle.gt_requests.specs.Request.{request_of}
-use Rattle.gt_requests.specs.declared.fault.RequestFault.TheVariants as request
 use Rattle.gt_requests.proofs.ToldLemmas.{told_fault, told_memory}
 use Rattle.gt_requests.proofs.routes.Routes.read.Goals as goal
 

@@ -1,5 +1,5 @@
 // What no clause says: requests, documents and limits from outside, as tables of what each is answered.
-use crate::{RequestFault, Routes, read_request};
+use gt_requests::{RequestFault, Routes, read_request};
 use gt_setup::Setup;
 use gt_types::{AccessSpec, Command, Principal, ReplyCode, TransferEntry, TransferSpec};
 use gt_values::Id;
