@@ -1,9 +1,8 @@
 use Rattle.std.proofs.Common.{sym}
-use Rattle.gt_requests.specs.Routes.{resource_at}
-use Rattle.gt_requests.specs.declared.resource.TheConstants.{RESOURCES}
+use Rattle.gt_requests.specs.Resources.{resource_at, resources}
 use Rattle.gt_requests.proofs.ApartLemmas.{the_resource, no_resource}
 use Rattle.gt_requests.proofs.RowLemmas.{found_is_at, none_is_at, bytes_of_text}
-use Rattle.gt_requests.proofs.resource.found.Goals as goal
+use Rattle.gt_requests.proofs.router.found.Goals as goal
 
 pub returns-in-Ok : goal.returns-in-Ok
 unfolding resource_at
@@ -14,4 +13,4 @@ returns-in-Ok c =
 
 pub returns-in-Err : goal.returns-in-Err
 unfolding resource_at
-returns-in-Err c = let path = c.args.path.now in sym (no_resource RESOURCES path (none_is_at path (rw c.requires at c.in-Err.ensures.missing)))
+returns-in-Err c = let path = c.args.path.now in sym (no_resource resources path (none_is_at path (rw c.requires at c.in-Err.ensures.missing)))

@@ -1,12 +1,17 @@
 -- Which paths a route takes: a byte stands for itself, and a parameter for one piece without a slash that isn't empty.
-use Rattle.std.specs.Prelude.{Bool, List, None, Option, Some, [], codes, false, if◌then◌else◌, nat_lt, not, true, ℕ, ◌&&◌, ◌==◌, ◌∷◌}
+use Rattle.std.specs.Prelude.{Bool, List, None, Option, Some, [], codes, false, if◌then◌else◌, not, true, ℕ, ◌&&◌, ◌==◌, ◌∷◌}
 use Rattle.matchit.specs.Rows.{param_token}
 use Rattle.matchit.specs.Seek.{slash}
 use Rattle.gt_requests.specs.declared.resource.Resource.{Resource}
 use Rattle.gt_requests.specs.declared.resource.Resource.TheVariants as resource
-use Rattle.gt_requests.specs.declared.resource.TheConstants.{RESOURCES}
 
--- the routes, with a parameter between braces
+-- all resources
+abbrev pub resources : List Resource
+resources =
+    resource.SubmissionId ∷ resource.Transfer ∷ resource.TaskList ∷ resource.Task ∷ resource.Successes ∷ resource.Skipped
+    ∷ resource.Endpoint ∷ resource.AccessList ∷ resource.AccessRules ∷ resource.AccessRule ∷ []
+
+-- the route of each, with a parameter between braces
 abbrev pub route_text : Resource → List ℕ
 route_text resource.SubmissionId = codes "/v0.10/submission_id"
 route_text resource.Transfer = codes "/v0.10/transfer"
@@ -52,4 +57,4 @@ find_resource (r ∷ rs) path = if is_at r path then Some r else find_resource r
 
 -- the resource of a path
 unfoldable pub resource_at : List ℕ → Option Resource
-resource_at path = find_resource RESOURCES path
+resource_at path = find_resource resources path
