@@ -1,24 +1,30 @@
 -- Events are read as they are written, so no text stands for two.
-use Rattle.std.proofs.Common.{◌≡◌, ℕ, ◌^◌, Bool, true, false, ◌&&◌, cond, eqb, ltb, List, [], ◌++◌, length, Some, None, refl, sym, ap, subst, ◌∙◌, append_assoc, true≢false}
+use Rattle.std.proofs.Common.{◌≡◌, ℕ, ◌^◌, Bool, true, false, ◌&&◌, cond, eqb, ltb, List, [], ◌++◌, drop, length, Some, None, refl, sym, ap, subst, ◌∙◌, append_assoc, true≢false}
 use Rattle.std.proofs.lemmas.Bool.{and_from, and_parts, eqb-true}
 use Rattle.std.proofs.lemmas.List.{append-nil, nil_from_length}
-use Rattle.gt_records.specs.Fields.{id_text, moment_text}
+use Rattle.gt_records.specs.Fields.{byte_text, id_text, moment_text, number_text}
+use Rattle.gt_records.specs.OutcomeText.{outcome_text}
 use Rattle.gt_records.specs.Reading.{mapped, number_at, ◌⊗◌}
 use Rattle.gt_records.specs.ReadingFields.{boolean_at, id_at, moment_at}
-use Rattle.gt_records.specs.ReadingEvents.{event_at, event_of, happening_at, happening_forms, tagged_at}
+use Rattle.gt_records.specs.ReadingEvents.{event_at, event_of, happening_at, happening_forms, tagged_at, worker_at}
+use Rattle.gt_records.specs.ReadingOutcomes.{outcome_at, side_at}
 use Rattle.gt_records.specs.ReadingSpecs.{access_spec_at, transfer_spec_at}
 use Rattle.gt_records.specs.RecordText.{fields_text, record_text, tag_of, transfer_spec_text}
 use Rattle.gt_records.proofs.FieldLaws.{boolean_reads, id_reads, moment_reads, u32_reads, u64_reads}
-use Rattle.gt_records.proofs.FormLaws.{FormTakes, FormsTake, forms_take, made_form}
-use Rattle.gt_records.proofs.Laws.{Follows, IsBytes, Reads, Reads-as, Reads-both, Reads-led, Takes, Takes-then, bind_some, byte_reads, guard_some, mapped_again, some_is}
+use Rattle.gt_records.proofs.FormLaws.{FormTakes, FormsTake, forms_take, lone_form, made_form}
+use Rattle.gt_records.proofs.Laws.{Follows, IsBytes, Reads, Reads-as, Reads-both, Reads-checked, Reads-led, Takes, Takes-then, bind_some, byte_reads, guard_some, mapped_again, some_is}
 use Rattle.gt_records.proofs.LimitLaws.{same_answer}
+use Rattle.gt_records.proofs.OutcomeLaws.{outcome_reads, side_reads}
 use Rattle.gt_records.proofs.SpecLaws.{access_spec_reads, is_spec, transfer_spec_reads}
+use Rattle.gt_types.specs.declared.act.Side.{Side}
 use Rattle.gt_types.specs.declared.event.Event.{Event}
 use Rattle.gt_types.specs.declared.event.Happening.{Happening}
 use Rattle.gt_types.specs.declared.event.Happening.TheVariants.{AccessAdd, AccessEnd, AccessReplace, Cancel, GrantItem, Issue, PauseAdd, PauseEnd, RefuseItem, ReportItem, Restart, SubmitDelete, SubmitTransfer, Sweep, Update}
+use Rattle.gt_types.specs.declared.outcome.Outcome.{Outcome}
 use Rattle.gt_types.specs.declared.rule.AccessSpec.{AccessSpec}
 use Rattle.gt_types.specs.declared.spec.TransferSpec.{TransferSpec}
-use Rattle.gt_types.specs.Event.{has_collections, is_recordable, is_recordable_happening, recordable_collections}
+use Rattle.gt_types.specs.Event.{has_collections, is_recordable, is_recordable_happening, is_worker, recordable_collections}
+use Rattle.gt_types.specs.Outcome.{is_recordable_outcome}
 use Rattle.gt_types.specs.SpecForms.{is_transfer_spec}
 use Rattle.gt_values.specs.Forms.{is_id, is_moment, is_u64}
 use Rattle.gt_values.specs.Grammar.{Read, ◌>>=◌}
@@ -67,16 +73,58 @@ and_true : (b : Bool) → (b && true) ≡ b
 and_true true = refl
 and_true false = refl
 
+and_assoc : (a b c : Bool) → (a && (b && c)) ≡ ((a && b) && c)
+and_assoc true b c = refl
+and_assoc false b c = refl
+
 replacement_reads : Reads (number_at w64 ⊗ boolean_at) (λ p. fields_text (AccessReplace p.0 p.1)) (λ p. is_recorded (AccessReplace p.0 p.1))
 replacement_reads =
     Reads-as (λ p. fields_text (AccessReplace p.0 p.1)) (λ p. is_recorded (AccessReplace p.0 p.1))
     (λ p. refl) (λ p. and_true (is_u64 p.0)) (Reads-both u64_reads boolean_reads)
+
+worker_reads : Reads worker_at byte_text is_worker
+unfolding worker_at
+worker_reads = Reads-checked is_worker byte_reads
+
+grant_reads : Reads (worker_at ⊗ number_at w64) (λ p. fields_text (GrantItem p.0 p.1)) (λ p. is_recorded (GrantItem p.0 p.1))
+grant_reads = Reads-both worker_reads u64_reads
+
+refusal_reads : Reads (number_at w64 ⊗ side_at) (λ p. fields_text (RefuseItem p.0 p.1)) (λ p. is_recorded (RefuseItem p.0 p.1))
+refusal_reads =
+    Reads-as (λ p. fields_text (RefuseItem p.0 p.1)) (λ p. is_recorded (RefuseItem p.0 p.1))
+    (λ p. refl) (λ p. and_true (is_u64 p.0)) (Reads-both u64_reads side_reads)
+
+abbrev Report : Type 0
+Report = ℕ × (ℕ × Outcome)
+
+abbrev reported : Report → Happening
+reported p = ReportItem p.0 p.1.0 p.1.1
+
+report_reads : Reads (number_at w64 ⊗ number_at w64 ⊗ outcome_at) (λ p. fields_text (reported p)) (λ p. is_recorded (reported p))
+report_reads =
+    Reads-as (λ p. fields_text (reported p)) (λ p. is_recorded (reported p))
+    (λ (p : Report). sym (append_assoc (number_text w64 p.0) (number_text w64 p.1.0) (outcome_text p.1.1)))
+    (λ (p : Report). and_assoc (is_u64 p.0) (is_u64 p.1.0) (is_recordable_outcome p.1.1))
+    (Reads-both u64_reads (Reads-both u64_reads outcome_reads))
 
 -- ---- what happens, by its tag
 
 happens : {A : Type 0} {reader : List ℕ → Read A} (tag : ℕ) (make : A → Happening) → Reads reader (λ a. fields_text (make a)) (λ a. is_recorded (make a))
     → ((a : A) → tag_of (make a) ≡ tag) → FormTakes tag_of fields_text is_recorded (record { number = tag; reader = mapped make reader })
 happens tag make reads is = made_form tag_of fields_text is_recorded tag make reads is
+
+-- the last four
+worker_forms_take : FormsTake tag_of fields_text is_recorded (drop 5 happening_forms)
+worker_forms_take = (
+  happens 11 (λ (p : ℕ × ℕ). GrantItem p.0 p.1) grant_reads (λ p. refl),
+  (
+    happens 12 (λ (p : ℕ × Side). RefuseItem p.0 p.1) refusal_reads (λ p. refl),
+    (
+      happens 13 reported report_reads (λ p. refl),
+      (lone_form tag_of fields_text is_recorded Restart refl refl, tt),
+    ),
+  ),
+)
 
 happening_forms_take : FormsTake tag_of fields_text is_recorded happening_forms
 happening_forms_take = (
@@ -87,7 +135,7 @@ happening_forms_take = (
       happens 4 (λ (p : ℕ × AccessSpec). AccessAdd p.0 p.1) addition_reads (λ p. refl),
       (
         happens 5 (λ (p : ℕ × Bool). AccessReplace p.0 p.1) replacement_reads (λ p. refl),
-        (happens 6 AccessEnd u64_reads (λ p. refl), tt),
+        (happens 6 AccessEnd u64_reads (λ p. refl), worker_forms_take),
       ),
     ),
   ),
@@ -114,11 +162,11 @@ happening_again (PauseAdd spec) rest h = unrecorded (ltb spec.collection (2 ^ 32
 happening_again (PauseEnd rule) rest h = unrecorded true h
 happening_again (Cancel task) rest h = unrecorded true h
 happening_again (Update task label deadline) rest h = unrecorded true h
-happening_again (GrantItem worker item) rest h = unrecorded true h
-happening_again (RefuseItem item side) rest h = unrecorded true h
-happening_again (ReportItem item grant outcome) rest h = unrecorded true h
+happening_again (GrantItem worker item) rest h = mapped_again (λ (p : ℕ × ℕ). GrantItem p.0 p.1) grant_reads (worker, item) rest h
+happening_again (RefuseItem item side) rest h = mapped_again (λ (p : ℕ × Side). RefuseItem p.0 p.1) refusal_reads (item, side) rest h
+happening_again (ReportItem item grant outcome) rest h = mapped_again reported report_reads (item, (grant, outcome)) rest h
 happening_again (Sweep task) rest h = unrecorded true h
-happening_again Restart rest h = unrecorded true h
+happening_again Restart rest h = refl
 
 -- ---- events
 
@@ -147,10 +195,6 @@ tagged_again x rest h =
 
 tagged_follows : Follows tagged_at (λ x. tag_of x.what) (λ x. moment_text x.moment ++ fields_text x.what) (λ x. is_moment x.moment && is_recorded x.what)
 tagged_follows = record { takes = tagged_takes; again = tagged_again }
-
-and_assoc : (a b c : Bool) → (a && (b && c)) ≡ ((a && b) && c)
-and_assoc true b c = refl
-and_assoc false b c = refl
 
 event_reads : Reads event_at record_text (is_recordable recordable_collections)
 unfolding event_at record_text

@@ -10,16 +10,16 @@ use Rattle.std.proofs.lemmas.Nat.{be_bytes_2, be_bytes_4, be_bytes_8, from_be_by
 use Rattle.std.proofs.Math.Nat.{mod-lt}
 use Rattle.gt_paths.specs.Name.{is_name, is_reserved, is_separator}
 use Rattle.gt_paths.specs.Path.{is_path, is_short_path, printed_len}
-use Rattle.gt_records.specs.Fields.{boolean_code, boolean_text, byte_text, id_text, list_text, moment_text, name_text, number_text, option_text, path_text, principal_text, string_text}
+use Rattle.gt_records.specs.Fields.{boolean_code, boolean_text, byte_text, digest_text, id_text, list_text, moment_text, name_text, number_text, option_text, path_text, principal_text, string_text}
 use Rattle.gt_records.specs.Reading.{bytes_at, number_at, of_form}
-use Rattle.gt_records.specs.ReadingFields.{boolean_at, boolean_of, id_at, list_at, moment_at, name_at, option_at, path_at, principal_at, principal_forms, string_at, utf8_at, value_at}
+use Rattle.gt_records.specs.ReadingFields.{boolean_at, boolean_of, digest_at, id_at, list_at, moment_at, name_at, option_at, path_at, principal_at, principal_forms, string_at, utf8_at, value_at}
 use Rattle.gt_records.proofs.FormLaws.{FormsTake, forms_take, lone_form, made_form}
 use Rattle.gt_records.proofs.Laws.{Follows, Follows-checked, IsBytes, Reads, Reads-as, Reads-checked, Reads-coded, Reads-led, Reads-mapped, Takes, all_bytes, bind_some, byte_reads, bytes_follow, itself, some_is, times_follow}
 use Rattle.gt_records.proofs.LimitLaws.{is_list, is_string}
 use Rattle.gt_types.specs.declared.rule.Principal.{Principal}
 use Rattle.gt_types.specs.declared.rule.Principal.TheVariants.{AllAuthenticated, Anonymous, Group, Identity}
 use Rattle.gt_types.specs.Forms.{is_principal}
-use Rattle.gt_values.specs.Forms.{if_there, is_bytes, is_id, is_moment}
+use Rattle.gt_values.specs.Forms.{if_there, is_bytes, is_digest, is_id, is_moment}
 use Rattle.gt_values.specs.Grammar.{Read}
 use Rattle.gt_values.specs.Moment.{last_moment}
 
@@ -172,6 +172,11 @@ path_reads =
 pub id_reads : Reads id_at id_text is_id
 unfolding id_at
 id_reads = bytes_read 16
+
+-- a digest
+pub digest_reads : Reads digest_at digest_text is_digest
+unfolding digest_at
+digest_reads = bytes_read 32
 
 -- ---- options and lists
 

@@ -6,6 +6,7 @@ mod Laws
 mod KeepLemmas
 mod LimitLaws
 mod Loop
+mod OutcomeLaws
 mod SpecLaws
 mod SpecParts
 mod Utf8

@@ -48,6 +48,10 @@ list_text text xs = number_text w32 (length xs) ++ flat_map text xs
 abbrev pub id_text : List ℕ → List ℕ
 id_text id = id
 
+-- a digest is its thirty-two bytes
+abbrev pub digest_text : List ℕ → List ℕ
+digest_text digest = digest
+
 -- a moment is its number of seconds in eight bytes
 abbrev pub moment_text : ℕ → List ℕ
 moment_text moment = number_text w64 moment

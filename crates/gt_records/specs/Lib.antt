@@ -1,7 +1,9 @@
 pub mod Appending
 pub mod Fields
+pub mod OutcomeText
 pub mod Reading
 pub mod ReadingEvents
 pub mod ReadingFields
+pub mod ReadingOutcomes
 pub mod ReadingSpecs
 pub mod RecordText

@@ -61,6 +61,11 @@ coded_at value_of bytes = do
   x ← value_of b.0
   Some (x, b.1)
 
+-- the first of the values whose number it is
+abbrev pub numbered : {X : Type 0} → (X → ℕ) → List X → ℕ → Option X
+numbered number_of [] n = None
+numbered number_of (x ∷ xs) n = if n == number_of x then Some x else numbered number_of xs n
+
 -- so many values
 unfoldable pub times_at : {X : Type 0} → (List ℕ → Read X) → ℕ → List ℕ → Read (List X)
 times_at reader zero bytes = Some ([], bytes)

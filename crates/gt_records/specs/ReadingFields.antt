@@ -53,6 +53,10 @@ list_at reader = led (number_at w32) (times_at reader)
 unfoldable pub id_at : List ℕ → Read (List ℕ)
 id_at = bytes_at 16
 
+-- a digest
+unfoldable pub digest_at : List ℕ → Read (List ℕ)
+digest_at = bytes_at 32
+
 -- a moment: its number of seconds in eight bytes
 unfoldable pub moment_at : List ℕ → Read ℕ
 moment_at = checked is_moment (number_at w64)

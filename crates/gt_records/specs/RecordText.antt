@@ -2,6 +2,7 @@
 use Rattle.std.specs.Int.{w32, w64}
 use Rattle.std.specs.Prelude.{Bool, List, None, Option, Some, [], false, true, ℕ, ◌*◌, ◌++◌, ◌+◌}
 use Rattle.gt_records.specs.Fields.{boolean_code, boolean_text, byte_text, id_text, list_text, moment_text, number_text, option_text, path_text, principal_text, string_text}
+use Rattle.gt_records.specs.OutcomeText.{outcome_text, side_number}
 use Rattle.gt_types.specs.declared.event.Event.{Event}
 use Rattle.gt_types.specs.declared.event.Happening.{Happening}
 use Rattle.gt_types.specs.declared.event.Happening.TheVariants.{AccessAdd, AccessEnd, AccessReplace, Cancel, GrantItem, Issue, PauseAdd, PauseEnd, RefuseItem, ReportItem, Restart, SubmitDelete, SubmitTransfer, Sweep, Update}
@@ -84,9 +85,9 @@ fields_text (PauseAdd spec) = []
 fields_text (PauseEnd rule) = []
 fields_text (Cancel task) = []
 fields_text (Update task label deadline) = []
-fields_text (GrantItem worker item) = []
-fields_text (RefuseItem item side) = []
-fields_text (ReportItem item grant outcome) = []
+fields_text (GrantItem worker item) = byte_text worker ++ number_text w64 item
+fields_text (RefuseItem item side) = number_text w64 item ++ byte_text (side_number side)
+fields_text (ReportItem item grant outcome) = number_text w64 item ++ number_text w64 grant ++ outcome_text outcome
 fields_text (Sweep task) = []
 fields_text Restart = []
 

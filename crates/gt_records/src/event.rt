@@ -2,7 +2,7 @@
 
 ghost use Rattle.gt_records.specs.Appending.{Keeps};
 ghost use Rattle.gt_records.specs.Reading.{Gives};
-ghost use Rattle.gt_records.specs.ReadingEvents.{event_at, happening_at};
+ghost use Rattle.gt_records.specs.ReadingEvents.{event_at, happening_at, worker_at};
 ghost use Rattle.gt_records.specs.RecordText as text;
 ghost use Rattle.gt_records.specs.RecordText.{fields_text, record_text};
 ghost use Rattle.gt_types.specs.Event.{is_recordable, is_recordable_happening, recordable_collections};
@@ -11,7 +11,7 @@ ghost use Rattle.std.specs.Prelude.{◌≡◌, ◌++◌, IsTrue, OnErr, OnOk};
 use crate::fault::DecodeFault;
 use crate::field::Field;
 use crate::reader::Reader;
-use gt_types::{AccessSpec, Event, Happening, TransferSpec};
+use gt_types::{AccessSpec, Event, Happening, Outcome, Side, TransferSpec, is_worker};
 use gt_values::{Id, Moment};
 use std::alloc::{AllocError, Global};
 
@@ -64,17 +64,31 @@ fn write_fields(what: &Happening, into: &mut Vec<u8>) -> Result<(), AllocError>
             write.write_to(into)
         }
         Happening::AccessEnd { rule } => rule.write_to(into),
+        Happening::GrantItem { worker, item } => {
+            worker.write_to(into)?;
+            item.write_to(into)
+        }
+        Happening::RefuseItem { item, side } => {
+            item.write_to(into)?;
+            side.write_to(into)
+        }
+        Happening::ReportItem {
+            item,
+            grant,
+            outcome,
+        } => {
+            item.write_to(into)?;
+            grant.write_to(into)?;
+            outcome.write_to(into)
+        }
+        Happening::Restart => Ok(()),
         // No record holds these yet.
         Happening::SubmitDelete { .. }
         | Happening::PauseAdd { .. }
         | Happening::PauseEnd { .. }
         | Happening::Cancel { .. }
         | Happening::Update { .. }
-        | Happening::GrantItem { .. }
-        | Happening::RefuseItem { .. }
-        | Happening::ReportItem { .. }
-        | Happening::Sweep { .. }
-        | Happening::Restart => Ok(()),
+        | Happening::Sweep { .. } => Ok(()),
     }
 }
 
@@ -108,7 +122,41 @@ fn read_fields(alloc: Global, tag: u8, from: &mut Reader<'_>) -> Result<Happenin
             Ok(Happening::AccessReplace { rule, write })
         }
         6 => Ok(Happening::AccessEnd { rule: from.u64()? }),
+        11 => {
+            let worker = read_worker(from)?;
+            let item = from.u64()?;
+            Ok(Happening::GrantItem { worker, item })
+        }
+        12 => {
+            let item = from.u64()?;
+            let side = Side::read_from(alloc, from)?;
+            Ok(Happening::RefuseItem { item, side })
+        }
+        13 => {
+            let item = from.u64()?;
+            let grant = from.u64()?;
+            let outcome = Outcome::read_from(alloc, from)?;
+            Ok(Happening::ReportItem {
+                item,
+                grant,
+                outcome,
+            })
+        }
+        15 => Ok(Happening::Restart),
         _ => Err(DecodeFault::NotRecord),
+    }
+}
+
+/// The number of a worker.
+#[tactic(auto, unfolding(crate::specs::ReadingEvents::worker_at))]
+fn read_worker(from: &mut Reader<'_>) -> Result<u8, DecodeFault>
+    ensures { Gives result (worker_at from.old) from.new }
+{
+    let worker = from.byte()?;
+    if is_worker(worker) {
+        Ok(worker)
+    } else {
+        Err(DecodeFault::NotRecord)
     }
 }
 

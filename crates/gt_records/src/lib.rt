@@ -9,6 +9,7 @@ mod encoding;
 mod event;
 mod fault;
 mod field;
+mod outcome;
 mod path;
 mod reader;
 mod spec;

@@ -1,14 +1,14 @@
 #![tactic(auto, using(crate::proofs::KeepLemmas::keeping))]
 
-ghost use Rattle.gt_records.specs.Fields.{id_text, moment_text, principal_text, string_text};
-ghost use Rattle.gt_records.specs.ReadingFields.{id_at, moment_at, principal_at, string_at};
+ghost use Rattle.gt_records.specs.Fields.{digest_text, id_text, moment_text, principal_text, string_text};
+ghost use Rattle.gt_records.specs.ReadingFields.{digest_at, id_at, moment_at, principal_at, string_at};
 ghost use Rattle.std.specs.Prelude.{◌^◌, length, nat_lt};
 
 use crate::fault::DecodeFault;
 use crate::field::Field;
 use crate::reader::Reader;
 use gt_types::Principal;
-use gt_values::{Id, Moment, Text};
+use gt_values::{Digest, Id, Moment, Text};
 use std::alloc::{AllocError, Global};
 
 impl Field for Text {
@@ -43,6 +43,21 @@ impl Field for Id {
     #[tactic(auto, unfolding(crate::specs::ReadingFields::id_at))]
     fn read_from(_alloc: Global, from: &mut Reader<'_>) -> Result<Id, DecodeFault> {
         Ok(Id::from_bytes(from.array()?))
+    }
+}
+
+impl Field for Digest {
+    ghost text = { digest_text };
+
+    ghost read_at = { digest_at };
+
+    fn write_to(&self, into: &mut Vec<u8>) -> Result<(), AllocError> {
+        into.extend_from_slice(self.as_bytes())
+    }
+
+    #[tactic(auto, unfolding(crate::specs::ReadingFields::digest_at))]
+    fn read_from(_alloc: Global, from: &mut Reader<'_>) -> Result<Digest, DecodeFault> {
+        Ok(Digest::from_bytes(from.array()?))
     }
 }
 

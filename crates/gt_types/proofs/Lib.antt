@@ -1,2 +1,4 @@
+mod Examples
 mod KeptLemmas
+mod OutcomeLemmas
 mod TextLemmas

@@ -1,13 +1,17 @@
 -- The forms and limits of events: what a record's text can hold.
-use Rattle.std.specs.Prelude.{Bool, false, nat_lt, true, ℕ, ◌&&◌, ◌^◌}
+use Rattle.std.specs.Prelude.{Bool, false, nat_le, nat_lt, true, ℕ, ◌&&◌, ◌^◌}
 use Rattle.gt_values.specs.Forms.{is_id, is_moment, is_u64}
+use Rattle.gt_types.specs.Outcome.{is_recordable_outcome}
 use Rattle.gt_types.specs.SpecForms.{is_access_spec, is_transfer_spec}
 use Rattle.gt_types.specs.declared.event.Event.{Event}
 use Rattle.gt_types.specs.declared.event.Happening.{Happening}
 use Rattle.gt_types.specs.declared.event.Happening.TheVariants.{AccessAdd, AccessEnd, AccessReplace, Cancel, GrantItem, Issue, PauseAdd, PauseEnd, RefuseItem, ReportItem, Restart, SubmitDelete, SubmitTransfer, Sweep, Update}
 
--- whether the values of what happens are within their limits; deletions, pause rules, changes of tasks and what workers do
--- have no text yet
+-- the number of a worker
+abbrev pub is_worker : ℕ → Bool
+is_worker worker = nat_le 1 worker && nat_le worker 16
+
+-- whether the values of what happens are within their limits; deletions, pause rules and changes of tasks have no text yet
 abbrev pub is_recordable_happening : Happening → Bool
 is_recordable_happening (Issue identity) = is_id identity
 is_recordable_happening (SubmitTransfer owner submission spec) =
@@ -20,11 +24,12 @@ is_recordable_happening (PauseAdd spec) = false
 is_recordable_happening (PauseEnd rule) = false
 is_recordable_happening (Cancel task) = false
 is_recordable_happening (Update task label deadline) = false
-is_recordable_happening (GrantItem worker item) = false
-is_recordable_happening (RefuseItem item side) = false
-is_recordable_happening (ReportItem item grant outcome) = false
+is_recordable_happening (GrantItem worker item) = is_worker worker && is_u64 item
+is_recordable_happening (RefuseItem item side) = is_u64 item
+is_recordable_happening (ReportItem item grant outcome) =
+    is_u64 item && is_u64 grant && is_recordable_outcome outcome
 is_recordable_happening (Sweep task) = false
-is_recordable_happening Restart = false
+is_recordable_happening Restart = true
 
 -- whether each collection that is named is below the number
 abbrev pub has_collections : ℕ → Happening → Bool

@@ -27,15 +27,15 @@ pub use code::{Code, Reason, Status};
 pub use command::Command;
 pub use event::{Event, Happening};
 pub use kept::{Kept, KeptMember};
-pub use laws::kept_members_come_back;
+pub use laws::{kept_members_come_back, verified_copies_were_read_back};
 pub use limits::{
     is_access_spec, is_deadline_change, is_delete_spec, is_kept, is_label, is_label_change,
-    is_listing, is_message, is_pattern, is_pause_spec, is_rules, is_transfer_entry,
-    is_transfer_spec,
+    is_listing, is_message, is_pattern, is_pause_spec, is_recordable_outcome, is_rules,
+    is_transfer_entry, is_transfer_spec, is_worker,
 };
 pub use listing::{Entry, Kind, Stat};
 pub use options::{DeleteOptions, TaskOptions, TransferOptions, options_of};
-pub use outcome::{Evidence, Grant, Outcome};
+pub use outcome::{Evidence, Grant, Outcome, outcome_fits};
 pub use reply::{
     AccessDocument, Counters, Page, PathPair, PauseDocument, Reply, ReplyCode, ResultCode,
     SkippedDocument, TaskDocument,

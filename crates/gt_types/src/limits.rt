@@ -1,9 +1,12 @@
 //! The tests of limits, one function each.
 ghost use Rattle.gt_paths.specs.Path as paths;
 ghost use Rattle.gt_paths.specs.Name.{is_name};
+ghost use Rattle.gt_types.specs.Event as events;
 ghost use Rattle.gt_types.specs.Forms as forms;
 ghost use Rattle.gt_types.specs.Listing as listing;
+ghost use Rattle.gt_types.specs.Outcome as outcomes;
 ghost use Rattle.gt_types.specs.SpecForms as limits;
+ghost use Rattle.gt_values.specs.Forms as values;
 ghost use Rattle.gt_values.specs.Forms.{if_there, is_id, is_moment};
 ghost use Rattle.std.specs.List.{list_all};
 ghost use Rattle.std.specs.Prelude.{◌≡◌, length};
@@ -12,10 +15,11 @@ ghost use Rattle.std.specs.Str.{chars};
 use crate::change::{DeadlineChange, LabelChange};
 use crate::kept::Kept;
 use crate::listing::Entry;
+use crate::outcome::{Evidence, Outcome};
 use crate::rule::{AccessSpec, PauseSpec, Principal};
 use crate::spec::{DeleteSpec, FilterRule, TransferEntry, TransferSpec};
 use gt_paths::Path;
-use gt_values::{Id, Moment, Text};
+use gt_values::{Digest, Id, Moment, Text};
 
 /// Whether the text is a label: at most 128 characters.
 pub fn is_label(label: &str) -> bool
@@ -265,4 +269,70 @@ fn is_first(entry: &Entry, after: &[Entry]) -> bool
         [] => true,
         [next, ..] => entry.name < next.name,
     }
+}
+
+/// Whether the number is a worker's: 1 to 16.
+pub fn is_worker(worker: u8) -> bool
+    ensures { result ≡ events.is_worker worker }
+{
+    1 <= worker && worker <= 16
+}
+
+/// Whether a record can hold the outcome.
+pub fn is_recordable_outcome(outcome: &Outcome) -> bool
+    ensures { result ≡ outcomes.is_recordable_outcome outcome.now }
+{
+    match outcome {
+        Outcome::Copied { evidence, checked } => is_evidence(evidence) && is_u64(*checked),
+        Outcome::Failed { .. } => true,
+        Outcome::TreeFault { before, after } => is_u64(*before) && is_u64(*after),
+        Outcome::Mismatch {
+            size,
+            source,
+            back_size,
+            back,
+            checked,
+        } => {
+            is_u64(*size)
+                && is_digest(source)
+                && is_u64(*back_size)
+                && is_digest(back)
+                && is_u64(*checked)
+        }
+        Outcome::Present { .. }
+        | Outcome::Expanded { .. }
+        | Outcome::Listed { .. }
+        | Outcome::Removed
+        | Outcome::Missing => false,
+    }
+}
+
+fn is_evidence(evidence: &Evidence) -> bool
+    ensures { result ≡ outcomes.is_evidence evidence.now }
+{
+    is_u64(evidence.size) && is_digest(&evidence.source) && is_digest_if_there(&evidence.back)
+}
+
+fn is_digest_if_there(digest: &Option<Digest>) -> bool
+    ensures { result ≡ if_there values.is_digest digest.now }
+{
+    match digest {
+        None => true,
+        Some(digest) => is_digest(digest),
+    }
+}
+
+// A digest has its form by its type.
+fn is_digest(digest: &Digest) -> bool
+    ensures { result ≡ values.is_digest digest.now }
+{
+    let _bytes = digest.as_bytes();
+    true
+}
+
+// A number of 8 bytes is one by its type.
+fn is_u64(number: u64) -> bool
+    ensures { result ≡ values.is_u64 number }
+{
+    number <= u64::MAX
 }

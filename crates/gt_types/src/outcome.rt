@@ -1,4 +1,7 @@
-use crate::act::{Act, Side};
+ghost use Rattle.gt_types.specs.Outcome as spec;
+ghost use Rattle.std.specs.Prelude.{IsTrue, ◌≡◌};
+
+use crate::act::{Act, Side, Want};
 use crate::code::Code;
 use crate::listing::{Entry, Stat};
 use gt_values::{Digest, Sequence};
@@ -78,4 +81,88 @@ pub struct Grant {
     pub verify: bool,
     pub preserve: bool,
     pub list_destination: bool,
+}
+
+/// Whether a worker may report the outcome of the grant.
+pub fn outcome_fits(grant: &Grant, outcome: &Outcome) -> bool
+    ensures value { result ≡ spec.outcome_fits grant.now outcome.now }
+    ensures ok { IsTrue result → IsTrue (spec.is_of_one_file outcome.now) }
+{
+    match outcome {
+        Outcome::Copied { evidence, .. } => may_copy(&grant.act)
+            && is_read_back(grant.verify, evidence),
+        Outcome::Failed { code, side } => is_worker_code(&grant.act, *code)
+            && is_side_of(&grant.act, *side),
+        Outcome::TreeFault { before, after } => {
+            before < after || *before == u64::MAX && *after == u64::MAX
+        }
+        Outcome::Mismatch {
+            size,
+            source,
+            back_size,
+            back,
+            ..
+        } => is_transfer(&grant.act) && grant.verify && (source != back || size != back_size),
+        Outcome::Present { .. }
+        | Outcome::Expanded { .. }
+        | Outcome::Listed { .. }
+        | Outcome::Removed
+        | Outcome::Missing => false,
+    }
+}
+
+// Whether the act may copy a file: a transfer that doesn't want a folder.
+fn may_copy(act: &Act) -> bool
+    ensures { result ≡ spec.may_copy act.now }
+{
+    match act {
+        Act::Transfer { want, .. } => match want {
+            Want::File | Want::Either => true,
+            Want::Folder => false,
+        },
+        Act::Erase { .. } | Act::RemoveFolder { .. } => false,
+    }
+}
+
+fn is_transfer(act: &Act) -> bool
+    ensures { result ≡ spec.is_transfer act.now }
+{
+    match act {
+        Act::Transfer { .. } => true,
+        Act::Erase { .. } | Act::RemoveFolder { .. } => false,
+    }
+}
+
+// A read-back with the source's digest where the task verifies, and none elsewhere.
+fn is_read_back(verify: bool, evidence: &Evidence) -> bool
+    ensures { result ≡ spec.is_read_back verify evidence.now.source evidence.now.back }
+{
+    match &evidence.back {
+        None => !verify,
+        Some(back) => verify && *back == evidence.source,
+    }
+}
+
+// Whether a worker may find the code for the act.
+fn is_worker_code(act: &Act, code: Code) -> bool
+    ensures { result ≡ spec.is_worker_code act.now code }
+{
+    match code {
+        Code::FileNotFound | Code::PermissionDenied | Code::WrongKind | Code::NotEmpty => true,
+        Code::FolderTooLarge => match act {
+            Act::Transfer { .. } | Act::Erase { .. } => true,
+            Act::RemoveFolder { .. } => false,
+        },
+        Code::VerifyMismatch | Code::TreeFault | Code::ItemLimit | Code::PathTooLong => false,
+    }
+}
+
+// What isn't a transfer has the destination's side alone.
+fn is_side_of(act: &Act, side: Side) -> bool
+    ensures { result ≡ spec.is_side_of act.now side }
+{
+    match side {
+        Side::Source => is_transfer(act),
+        Side::Destination => true,
+    }
 }

@@ -1,6 +1,6 @@
 use gt_records::{DecodeFault, decode, encode, encode_into};
-use gt_types::{Event, Happening, Kind, Principal, TransferSpec};
-use gt_values::{Id, Moment};
+use gt_types::{Code, Event, Evidence, Happening, Kind, Outcome, Principal, Side, TransferSpec};
+use gt_values::{Digest, Id, Moment};
 use std::process::Abort;
 use std::test::Fail;
 
@@ -56,6 +56,65 @@ const REPLACEMENT: &[u8; 18] = b"\x05\
 const END: &[u8; 17] = b"\x06\
     \0\0\0\0\0\0\0\x09\
     \0\0\x01\0\0\0\0\0";
+
+const GRANT: &[u8; 18] = b"\x0b\
+    \0\0\0\0\0\0\0\x0a\
+    \x10\
+    \0\0\0\0\0\0\x01\x02";
+
+const REFUSAL: &[u8; 18] = b"\x0c\
+    \0\0\0\0\0\0\0\x0b\
+    \0\0\0\0\0\0\0\x07\
+    \x02";
+
+const COPIED: &[u8; 107] = b"\x0d\
+    \0\0\0\0\0\0\0\x0c\
+    \0\0\0\0\0\0\0\x07\
+    \0\0\0\0\0\0\0\x09\
+    \x01\
+    \0\0\0\0\0\x01\0\0\
+    0123456789abcdef0123456789abcdef\
+    \x01fedcba9876543210fedcba9876543210\
+    \0\0\0\0\0\x02\0\0";
+
+const COPIED_UNREAD: &[u8; 75] = b"\x0d\
+    \0\0\0\0\0\0\0\x0c\
+    \0\0\0\0\0\0\0\x07\
+    \0\0\0\0\0\0\0\x09\
+    \x01\
+    \0\0\0\0\0\x01\0\0\
+    0123456789abcdef0123456789abcdef\
+    \0\
+    \0\0\0\0\0\0\0\0";
+
+const FAILED: &[u8; 28] = b"\x0d\
+    \0\0\0\0\0\0\0\x0c\
+    \0\0\0\0\0\0\0\x07\
+    \0\0\0\0\0\0\0\x09\
+    \x07\
+    \x02\x01";
+
+const FAULTED: &[u8; 42] = b"\x0d\
+    \0\0\0\0\0\0\0\x0c\
+    \0\0\0\0\0\0\0\x07\
+    \0\0\0\0\0\0\0\x09\
+    \x08\
+    \0\0\0\0\0\0\0\x03\
+    \xff\xff\xff\xff\xff\xff\xff\xff";
+
+const MISMATCH: &[u8; 114] = b"\x0d\
+    \0\0\0\0\0\0\0\x0c\
+    \0\0\0\0\0\0\0\x07\
+    \0\0\0\0\0\0\0\x09\
+    \x09\
+    \0\0\0\0\0\x01\0\0\
+    0123456789abcdef0123456789abcdef\
+    \0\0\0\0\0\0\0\x05\
+    fedcba9876543210fedcba9876543210\
+    \0\0\0\0\0\x01\0\x05";
+
+const RESTART: &[u8; 9] = b"\x0f\
+    \0\0\0:\xff\xf4A\x7f";
 
 /// The event of the bytes, which encodes to these bytes again.
 fn round_trip(rt: &(impl Abort + AllocGlobal), bytes: &[u8]) -> Result<Event, Fail> {
@@ -157,17 +216,128 @@ fn texts_are_appended_to_one_buffer(rt: HostRuntime) -> Result<(), Fail> {
     Ok(())
 }
 
+/// The bytes are the text of this at this moment.
+fn is_text(
+    rt: &(impl Abort + AllocGlobal),
+    bytes: &[u8],
+    seconds: u64,
+    what: &Happening,
+) -> Result<(), Fail> {
+    let event = round_trip(rt, bytes)?;
+    assert!(rt; event.moment.seconds() == seconds);
+    assert!(rt; event.what == *what);
+    Ok(())
+}
+
+/// The bytes are the text of this outcome of item 7, which the event 9 granted, at moment 12.
+fn is_report(rt: &(impl Abort + AllocGlobal), bytes: &[u8], outcome: Outcome) -> Result<(), Fail> {
+    let what = Happening::ReportItem {
+        item: 7,
+        grant: 9,
+        outcome,
+    };
+    is_text(rt, bytes, 12, &what)
+}
+
+fn source() -> Digest {
+    Digest::from_bytes(*b"0123456789abcdef0123456789abcdef")
+}
+
+fn back() -> Digest {
+    Digest::from_bytes(*b"fedcba9876543210fedcba9876543210")
+}
+
+#[test]
+fn grants_refusals_and_restarts_are_read_and_written(rt: HostRuntime) -> Result<(), Fail> {
+    let grant = Happening::GrantItem {
+        worker: 16,
+        item: 258,
+    };
+    is_text(&rt, GRANT, 10, &grant)?;
+    let refusal = Happening::RefuseItem {
+        item: 7,
+        side: Side::Destination,
+    };
+    is_text(&rt, REFUSAL, 11, &refusal)?;
+    is_text(&rt, RESTART, 253_402_300_799, &Happening::Restart)
+}
+
+#[test]
+fn copies_are_read_and_written(rt: HostRuntime) -> Result<(), Fail> {
+    let mut evidence = Evidence {
+        size: 65_536,
+        source: source(),
+        back: Some(back()),
+    };
+    let checked = 131_072;
+    is_report(&rt, COPIED, Outcome::Copied { evidence, checked })?;
+    evidence.back = None;
+    let checked = 0;
+    is_report(&rt, COPIED_UNREAD, Outcome::Copied { evidence, checked })
+}
+
+#[test]
+fn failed_attempts_are_read_and_written(rt: HostRuntime) -> Result<(), Fail> {
+    let failed = Outcome::Failed {
+        code: Code::PermissionDenied,
+        side: Side::Source,
+    };
+    is_report(&rt, FAILED, failed)?;
+    let faulted = Outcome::TreeFault {
+        before: 3,
+        after: u64::MAX,
+    };
+    is_report(&rt, FAULTED, faulted)?;
+    let mismatch = Outcome::Mismatch {
+        size: 65_536,
+        source: source(),
+        back_size: 5,
+        back: back(),
+        checked: 65_541,
+    };
+    is_report(&rt, MISMATCH, mismatch)
+}
+
+/// Whether the bytes with this one at this place are a record, which is written as it was read.
+fn is_record_with(
+    rt: &(impl Abort + AllocGlobal),
+    bytes: &[u8],
+    at: usize,
+    value: u8,
+) -> Result<bool, Fail> {
+    let mut changed = Vec::new(rt.alloc());
+    changed.extend_from_slice(bytes)?;
+    if let Some(byte) = changed.as_mut_slice().get_mut(at) {
+        *byte = value;
+    }
+    match decode(rt.alloc(), changed.as_slice()) {
+        Ok(event) => {
+            assert!(rt; encode(rt.alloc(), &event)?.as_slice() == changed.as_slice());
+            Ok(true)
+        }
+        Err(fault) => {
+            assert!(rt; fault == DecodeFault::NotRecord);
+            Ok(false)
+        }
+    }
+}
+
 #[test]
 fn a_changed_byte_is_refused_or_read_as_it_stands(rt: HostRuntime) -> Result<(), Fail> {
-    for at in 0..ADDITION.len() {
-        for value in 0..=255 {
-            let mut changed = *ADDITION;
-            changed[at] = value;
-            match decode(rt.alloc(), &changed) {
-                Ok(event) => assert!(rt;
-                    encode(rt.alloc(), &event)?.as_slice() == changed.as_slice()
-                ),
-                Err(fault) => assert!(rt; fault == DecodeFault::NotRecord),
+    for bytes in [
+        ADDITION.as_slice(),
+        GRANT,
+        REFUSAL,
+        COPIED,
+        COPIED_UNREAD,
+        FAILED,
+        FAULTED,
+        MISMATCH,
+        RESTART,
+    ] {
+        for at in 0..bytes.len() {
+            for value in 0..=255 {
+                is_record_with(&rt, bytes, at, value)?;
             }
         }
     }
@@ -175,9 +345,42 @@ fn a_changed_byte_is_refused_or_read_as_it_stands(rt: HostRuntime) -> Result<(),
 }
 
 #[test]
+fn workers_codes_and_sides_begin_with_1(rt: HostRuntime) -> Result<(), Fail> {
+    for (bytes, at, last) in [
+        (GRANT.as_slice(), 9, 16),
+        (REFUSAL, 17, 2),
+        (FAILED, 26, 9),
+        (FAILED, 27, 2),
+    ] {
+        for value in 0..=255 {
+            let is_one = 1 <= value && value <= last;
+            assert!(rt; is_record_with(&rt, bytes, at, value)? == is_one);
+        }
+    }
+    Ok(())
+}
+
+#[test]
+fn other_tags_and_outcomes_are_refused(rt: HostRuntime) -> Result<(), Fail> {
+    for tag in [0, 3, 7, 8, 9, 10, 14, 16] {
+        for bytes in [RESTART.as_slice(), END, GRANT, MISMATCH] {
+            assert!(rt; !is_record_with(&rt, bytes, 0, tag)?);
+        }
+    }
+    for outcome in [0, 2, 3, 4, 5, 6, 10] {
+        for bytes in [COPIED.as_slice(), FAILED, FAULTED, MISMATCH, &FAILED[..26]] {
+            assert!(rt; !is_record_with(&rt, bytes, 25, outcome)?);
+        }
+    }
+    Ok(())
+}
+
+#[test]
 fn a_cut_text_is_refused(rt: HostRuntime) -> Result<(), Fail> {
-    for len in 0..FULL.len() {
-        assert!(rt; decode(rt.alloc(), &FULL[..len]) == Err(DecodeFault::NotRecord));
+    for bytes in [FULL.as_slice(), GRANT, COPIED, MISMATCH, RESTART] {
+        for len in 0..bytes.len() {
+            assert!(rt; decode(rt.alloc(), &bytes[..len]) == Err(DecodeFault::NotRecord));
+        }
     }
     Ok(())
 }

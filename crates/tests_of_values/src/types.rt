@@ -1,10 +1,11 @@
 use gt_paths::{Name, Path};
 use gt_types::{
-    DeadlineChange, DeleteSpec, Entry, FilterRule, Kept, KeptMember, Kind, LabelChange, PauseSpec,
-    Principal, TransferEntry, TransferSpec, is_deadline_change, is_delete_spec, is_kept, is_label,
-    is_label_change, is_listing, is_message, is_pattern, is_pause_spec, is_transfer_spec,
+    Act, Code, DeadlineChange, DeleteSpec, Entry, Evidence, FilterRule, Grant, Kept, KeptMember,
+    Kind, LabelChange, Outcome, PauseSpec, Principal, Side, TransferEntry, TransferSpec, Want,
+    is_deadline_change, is_delete_spec, is_kept, is_label, is_label_change, is_listing, is_message,
+    is_pattern, is_pause_spec, is_recordable_outcome, is_transfer_spec, is_worker, outcome_fits,
 };
-use gt_values::{Id, Moment, Sequence, Text};
+use gt_values::{Digest, Id, Moment, Sequence, Text};
 use std::alloc::{AllocError, Global};
 use std::test::Fail;
 
@@ -222,6 +223,143 @@ fn principals_have_an_order(rt: HostRuntime) -> Result<(), Fail> {
     ];
     for place in 1..rising.len() {
         assert!(rt; rising[place - 1] < rising[place]);
+    }
+    Ok(())
+}
+
+fn transfer_of(alloc: Global, want: Want) -> Act {
+    Act::Transfer {
+        source: Path::root(alloc),
+        destination: Path::root(alloc),
+        want,
+    }
+}
+
+fn erasure_of(alloc: Global, want: Want) -> Act {
+    let path = Path::root(alloc);
+    Act::Erase { path, want }
+}
+
+fn removal(alloc: Global) -> Act {
+    let path = Path::root(alloc);
+    Act::RemoveFolder { path }
+}
+
+// Whether the outcome fits a grant of the act.
+fn fits(verify: bool, act: Act, outcome: &Outcome) -> bool {
+    let grant = Grant {
+        item: 7,
+        event: 9,
+        worker: 16,
+        act,
+        source: 0,
+        destination: 1,
+        level: None,
+        verify,
+        preserve: true,
+        list_destination: false,
+    };
+    outcome_fits(&grant, outcome)
+}
+
+#[test]
+fn copies_fit_transfers_of_files(rt: HostRuntime) -> Result<(), Fail> {
+    let source = Digest::from_bytes([1; 32]);
+    for (verify, back, good) in [
+        (true, Some(source), true),
+        (true, Some(Digest::from_bytes([2; 32])), false),
+        (true, None, false),
+        (false, None, true),
+        (false, Some(source), false),
+    ] {
+        let evidence = Evidence {
+            size: 3,
+            source,
+            back,
+        };
+        let copied = Outcome::Copied {
+            evidence,
+            checked: 6,
+        };
+        assert!(rt; is_recordable_outcome(&copied));
+        for (want, is_file) in [
+            (Want::File, true),
+            (Want::Folder, false),
+            (Want::Either, true),
+        ] {
+            assert!(rt; fits(verify, transfer_of(rt.alloc(), want), &copied) == (good && is_file));
+            assert!(rt; !fits(verify, erasure_of(rt.alloc(), want), &copied));
+        }
+        assert!(rt; !fits(verify, removal(rt.alloc()), &copied));
+    }
+    Ok(())
+}
+
+#[test]
+fn failures_fit_by_code_and_side(rt: HostRuntime) -> Result<(), Fail> {
+    // Each code: whether a worker finds it, and whether also for a folder's removal.
+    for (code, found, removing) in [
+        (Code::FileNotFound, true, true),
+        (Code::PermissionDenied, true, true),
+        (Code::WrongKind, true, true),
+        (Code::NotEmpty, true, true),
+        (Code::VerifyMismatch, false, false),
+        (Code::TreeFault, false, false),
+        (Code::FolderTooLarge, true, false),
+        (Code::ItemLimit, false, false),
+        (Code::PathTooLong, false, false),
+    ] {
+        for (side, is_destination) in [(Side::Source, false), (Side::Destination, true)] {
+            let failed = Outcome::Failed { code, side };
+            for want in [Want::File, Want::Folder, Want::Either] {
+                assert!(rt; fits(true, transfer_of(rt.alloc(), want), &failed) == found);
+                let erased = fits(false, erasure_of(rt.alloc(), want), &failed);
+                assert!(rt; erased == (found && is_destination));
+            }
+            let removed = fits(false, removal(rt.alloc()), &failed);
+            assert!(rt; removed == (removing && is_destination));
+        }
+    }
+    Ok(())
+}
+
+#[test]
+fn faults_and_mismatches_fit(rt: HostRuntime) -> Result<(), Fail> {
+    for (before, after, good) in [
+        (3, 4, true),
+        (3, 3, false),
+        (4, 3, false),
+        (u64::MAX - 1, u64::MAX, true),
+        (u64::MAX, u64::MAX, true),
+        (u64::MAX - 1, u64::MAX - 1, false),
+    ] {
+        let faulted = Outcome::TreeFault { before, after };
+        assert!(rt; fits(true, transfer_of(rt.alloc(), Want::Folder), &faulted) == good);
+        assert!(rt; fits(false, removal(rt.alloc()), &faulted) == good);
+    }
+    for (back_size, byte, good) in [(3, 1, false), (3, 2, true), (4, 1, true), (4, 2, true)] {
+        let mismatch = Outcome::Mismatch {
+            size: 3,
+            source: Digest::from_bytes([1; 32]),
+            back_size,
+            back: Digest::from_bytes([byte; 32]),
+            checked: 6,
+        };
+        assert!(rt; fits(true, transfer_of(rt.alloc(), Want::File), &mismatch) == good);
+        assert!(rt; !fits(false, transfer_of(rt.alloc(), Want::File), &mismatch));
+        assert!(rt; !fits(true, erasure_of(rt.alloc(), Want::File), &mismatch));
+    }
+    Ok(())
+}
+
+#[test]
+fn folders_and_deletions_report_nothing_yet(rt: HostRuntime) -> Result<(), Fail> {
+    for outcome in [Outcome::Removed, Outcome::Missing] {
+        assert!(rt; !is_recordable_outcome(&outcome));
+        assert!(rt; !fits(false, removal(rt.alloc()), &outcome));
+    }
+    for (worker, good) in [(0, false), (1, true), (16, true), (17, false), (255, false)] {
+        assert!(rt; is_worker(worker) == good);
     }
     Ok(())
 }
