@@ -10,8 +10,6 @@ mod right;
 mod row;
 mod rules;
 mod search;
-#[cfg(test)]
-mod tests;
 
 pub use row::{AccessRow, Right};
 pub use rules::Rules;

@@ -6,8 +6,6 @@
 mod claim;
 mod claims;
 mod conflict;
-#[cfg(test)]
-mod tests;
 
 pub use claim::Claim;
 pub use claims::Claims;

@@ -15,8 +15,6 @@ mod noting;
 mod overlay;
 mod suite;
 mod suite_fault;
-#[cfg(test)]
-mod tests;
 
 pub use disk::Disk;
 pub use keep::Keep;

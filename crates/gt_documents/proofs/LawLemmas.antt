@@ -5,18 +5,17 @@ use Rattle.std.specs.List.{list_any}
 use Rattle.std.specs.Option.{option_and_then, option_map, option_or}
 use Rattle.std.specs.Prelude.{IsOk}
 use Rattle.std.specs.Str.{bytes_eq}
-use Rattle.form_urlencoded.specs.Form.{raw_pairs}
 use Rattle.json.specs.Json as json
-use Rattle.serde_json.specs.Data.{Data, Items, Members, item, no_items, no_members, object, put}
-use Rattle.serde_json.specs.Find.{get, get_item, get_member}
+use Rattle.serde_json.specs.Data.{Data, Items, Members, item, no_items, no_members, put}
+use Rattle.serde_json.specs.Find.{get_item, get_member}
 use Rattle.serde_json.specs.Read.{of_json, of_members}
 use Rattle.serde_json.proofs.Views.{get_member-put, get_member-put_other}
 use Rattle.gt_values.specs.Results.{◌>>=◌}
-use Rattle.gt_documents.specs.Laws.{FirstBadItem, FirstPairCounts, IsFirstBad, LastMemberCounts, OthersChangeNothing, last_value}
+use Rattle.gt_documents.specs.Laws.{FirstBadItem, FirstPairCounts, LastMemberCounts, OthersChangeNothing, last_value}
 use Rattle.gt_documents.specs.Lists.{items_from, within}
 use Rattle.gt_documents.specs.Members.{given_at, valued}
 use Rattle.gt_documents.specs.Place.{Place, in_item}
-use Rattle.gt_documents.specs.Query.{decoded, find_value, is_named, value_at}
+use Rattle.gt_documents.specs.Query.{decoded, find_value, is_named}
 
 put_at : (key name : List ℕ) (d : Data) (ms : Members) (b : Bool) → bytes_eq key name ≡ b
     → get_member name (put key d ms) ≡ option_or (cond b (Some d) None) (get_member name ms)

@@ -1,6 +1,6 @@
 -- What holds of all documents, lists and queries.
 use Rattle.std.specs.Option.{option_or}
-use Rattle.std.specs.Prelude.{Err, IsOk, List, None, Ok, Option, Result, Some, if◌then◌else◌, false, true, ℕ, ◌++◌, ◌<◌, ◌≡◌, ◌∷◌}
+use Rattle.std.specs.Prelude.{Err, IsOk, List, None, Option, Result, Some, if◌then◌else◌, false, true, ℕ, ◌++◌, ◌<◌, ◌≡◌, ◌∷◌}
 use Rattle.std.specs.List.{list_any}
 use Rattle.std.specs.Str.{bytes_eq}
 use Rattle.form_urlencoded.specs.Form.{raw_pairs}

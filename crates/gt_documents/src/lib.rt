@@ -13,8 +13,6 @@ mod lists;
 mod members;
 mod place;
 mod query;
-#[cfg(test)]
-mod tests;
 mod values;
 
 pub use body::{is_object, object_in};

@@ -8,8 +8,6 @@
 mod index;
 mod keyed;
 mod search;
-#[cfg(test)]
-mod tests;
 
 pub use index::Index;
 pub use keyed::{Asked, Keyed};

@@ -14,8 +14,6 @@ mod opening;
 mod pieces;
 mod reading;
 mod settled;
-#[cfg(test)]
-mod tests;
 
 pub use fault::JournalFault;
 pub use journal::Journal;

@@ -14,8 +14,6 @@ mod line;
 mod plan;
 mod state;
 mod take;
-#[cfg(test)]
-mod tests;
 
 pub use change::{Change, PlanFault, Prepared};
 pub use decision::Decision;

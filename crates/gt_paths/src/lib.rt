@@ -8,8 +8,6 @@ mod fault;
 mod name;
 mod path;
 mod pieces;
-#[cfg(test)]
-mod tests;
 
 pub use fault::{NameFault, PathFault};
 pub use name::Name;

@@ -8,8 +8,6 @@ mod live;
 mod look_up;
 mod pauses;
 mod row;
-#[cfg(test)]
-mod tests;
 
 pub use pauses::Pauses;
 pub use row::{PauseAct, PauseRow};

@@ -1,6 +1,5 @@
 // For the proof: each device that a thread comes to own crosses to one and back.
-use crate::{DirForest, FileDisk, RealClock, StdSink, StdSource, TcpDoor, TcpIn, TcpOut};
-use gt_folders::SystemFolders;
+use crate::{FileDisk, RealClock, StdSink, StdSource, TcpDoor, TcpIn, TcpOut};
 use std::fs::File;
 use std::rt::{Stdin, Stdout};
 use std::thread::{Threads, join};
@@ -23,14 +22,6 @@ pub fn send_source<R: Threads>(rt: &R, source: StdSource<Stdin>) -> StdSource<St
 /// Standard output as a sink, in the same way.
 pub fn send_sink<R: Threads>(rt: &R, sink: StdSink<Stdout>) -> StdSink<Stdout> {
     send(rt, sink)
-}
-
-/// A forest over folders, in the same way.
-pub fn send_forest<R: Threads>(
-    rt: &R,
-    forest: DirForest<SystemFolders>,
-) -> DirForest<SystemFolders> {
-    send(rt, forest)
 }
 
 /// A door, in the same way.

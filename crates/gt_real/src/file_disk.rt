@@ -1,10 +1,10 @@
 ghost use Rattle.std.specs.Prelude.{IfOk, IsTrue, OnOk, length, ◌+◌, ◌<◌, ◌≡◌, ◌≤◌, ◌^◌, ◌↔◌};
 ghost use Rattle.gt_disk.specs.Disk.{untold, untold_laws};
-ghost use Rattle.gt_real.specs.Faults.{CountsFaults};
+ghost use Rattle.gt_faults.specs.Faults.{CountsFaults};
 
-use crate::faults::Faults;
 use gt_causes::Failed;
 use gt_disk::Disk;
+use gt_faults::Faults;
 use std::alloc::{AllocError, Global};
 use std::fs::{self, File, Files, OpenOptions, TryLockError};
 use std::io::{self, ErrorKind};
@@ -60,7 +60,7 @@ impl Model for FileDisk {
 
     ghost Value = { ℕ };
 
-    ghost view = { λ d. d.faults.count };
+    ghost view = { λ d. d.faults };
 }
 
 impl FileDisk {

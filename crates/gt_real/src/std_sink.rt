@@ -1,9 +1,9 @@
 ghost use Rattle.std.specs.Prelude.{IfOk, length, ◌<◌, ◌≡◌, ◌≤◌};
-ghost use Rattle.gt_real.specs.Faults.{CountsFaults};
+ghost use Rattle.gt_faults.specs.Faults.{CountsFaults};
 ghost use Rattle.gt_streams.specs.Streams.{untold_sink};
 
-use crate::faults::Faults;
 use gt_causes::Failed;
+use gt_faults::Faults;
 use gt_streams::Sink;
 use std::alloc::{AllocError, Global};
 use std::io::{self, ErrorKind};
@@ -23,7 +23,7 @@ impl<W: AsRawFd + Drop> Model for StdSink<W> {
 
     ghost Value = { ℕ };
 
-    ghost view = { λ s. s.faults.count };
+    ghost view = { λ s. s.faults };
 }
 
 impl<W: AsRawFd + Drop> StdSink<W> {

@@ -1,9 +1,9 @@
 ghost use Rattle.std.specs.Prelude.{IfOk, length, ◌≡◌, ◌≤◌};
-ghost use Rattle.gt_real.specs.Faults.{CountsFaults};
+ghost use Rattle.gt_faults.specs.Faults.{CountsFaults};
 ghost use Rattle.gt_streams.specs.Streams.{untold_source};
 
-use crate::faults::Faults;
 use gt_causes::Failed;
+use gt_faults::Faults;
 use gt_streams::Source;
 use std::alloc::{AllocError, Global};
 use std::io::{self, BufReader, ErrorKind, Read};
@@ -29,7 +29,7 @@ impl<R: Read + AsRawFd + Drop> Model for StdSource<R> {
 
     ghost Value = { ℕ };
 
-    ghost view = { λ s. s.faults.count };
+    ghost view = { λ s. s.faults };
 }
 
 impl<R: Read + AsRawFd + Drop> StdSource<R> {

@@ -3,8 +3,8 @@ ghost use Rattle.gt_real.specs.Doors.{CountsLinks, real_words};
 ghost use Rattle.gt_streams.specs.Doors.{AsksNext, IsSameDoor, TakesBack};
 ghost use Rattle.std.specs.Prelude.{IfOk, IsErrOf, false, true, ◌≡◌};
 
-use crate::faults::Faults;
 use crate::tcp_link::{TcpIn, TcpOut, ends_of};
+use gt_faults::Faults;
 use gt_streams::{Door, DoorFault};
 use std::alloc::{AllocError, Global};
 use std::io::{self, ErrorKind};
@@ -27,7 +27,7 @@ impl Model for TcpDoor {
 
     ghost Value = { RealDoor };
 
-    ghost view = { λ d. record { is_out = d.is_out; faults = d.faults.count } };
+    ghost view = { λ d. record { is_out = d.is_out; faults = d.faults } };
 }
 
 impl TcpDoor {

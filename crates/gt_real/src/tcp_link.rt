@@ -1,9 +1,9 @@
-ghost use Rattle.gt_real.specs.Faults.{CountsFaults};
+ghost use Rattle.gt_faults.specs.Faults.{CountsFaults};
 ghost use Rattle.gt_streams.specs.Streams.{untold_sink, untold_source};
 ghost use Rattle.std.specs.Prelude.{IfOk, length, ◌<◌, ◌≡◌, ◌≤◌};
 
-use crate::faults::Faults;
 use gt_causes::Failed;
+use gt_faults::Faults;
 use gt_streams::{Sink, Source};
 use std::alloc::{AllocError, Global};
 use std::io::{self, ErrorKind, Read, Write};
@@ -65,7 +65,7 @@ impl Model for TcpIn {
 
     ghost Value = { ℕ };
 
-    ghost view = { λ s. s.faults.count };
+    ghost view = { λ s. s.faults };
 
     ghost invariant = { λ s. (s.from ≤ s.to) × (s.to ≤ length s.ahead.items) };
 }
@@ -75,7 +75,7 @@ impl Model for TcpOut {
 
     ghost Value = { ℕ };
 
-    ghost view = { λ s. s.faults.count };
+    ghost view = { λ s. s.faults };
 }
 
 impl TcpIn {

@@ -1,5 +1,4 @@
 // The suites over real files and pipes, locks, what is given back, and faults. Files lie in the folder for temporary ones.
-use crate::faults::write_fault;
 use crate::{FileDisk, FileFault, StdSink, StdSource};
 use gt_disk::{Disk, disk_suite};
 use gt_streams::{Sink, Source, sink_suite, source_suite};
@@ -121,17 +120,5 @@ fn failed_read_is_counted(rt: HostRuntime) -> Result<(), Fail> {
     assert!(rt; source.read(&mut [0; 4]).is_err());
     assert!(rt; source.read(&mut [0; 4]).is_err());
     assert_eq!(rt; source.faults(), 2);
-    Ok(())
-}
-
-#[test]
-fn text_of_a_fault(rt: HostRuntime) -> Result<(), Fail> {
-    let mut line = Vec::new(rt.alloc());
-    let reason = io::Error::from_raw_os_error(libc::ENOSPC);
-    write_fault(&mut line, "the journal", "a sync", reason)?;
-    assert_eq!(rt;
-        line.as_slice(),
-        b"transferd: the journal: a sync failed: No space left on device (os error 28)\n".as_slice()
-    );
     Ok(())
 }

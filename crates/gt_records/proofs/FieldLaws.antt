@@ -1,5 +1,5 @@
 -- Each kind of field is read as it is written.
-use Rattle.std.proofs.Common.{◌≡◌, ℕ, zero, suc, ◌<◌, ◌/◌, ◌^◌, Bool, true, false, not, ◌&&◌, eqb, ltb, leb, List, [], ◌∷◌, ◌++◌, length, Option, Some, None, refl, sym, ap, subst, ◌∙◌, arith, inl, inr}
+use Rattle.std.proofs.Common.{◌≡◌, ℕ, zero, suc, ◌<◌, ◌/◌, ◌^◌, Bool, true, false, not, ◌&&◌, eqb, ltb, leb, List, [], ◌∷◌, ◌++◌, length, Option, Some, None, refl, sym, ap, subst, ◌∙◌, arith}
 use Rattle.std.specs.Int.{Width, byte_at as byte_of, byte_len, bytes_high_first, from_be_bytes, to_be_bytes, w16, w32, w64}
 use Rattle.std.specs.List.{list_all, list_any}
 use Rattle.std.specs.Option.{is_some}
@@ -14,7 +14,7 @@ use Rattle.gt_records.specs.Fields.{boolean_code, boolean_text, byte_text, id_te
 use Rattle.gt_records.specs.Reading.{bytes_at, number_at, of_form}
 use Rattle.gt_records.specs.ReadingFields.{boolean_at, boolean_of, id_at, list_at, moment_at, name_at, option_at, path_at, principal_at, principal_forms, string_at, utf8_at, value_at}
 use Rattle.gt_records.proofs.FormLaws.{FormsTake, forms_take, lone_form, made_form}
-use Rattle.gt_records.proofs.Laws.{Follows, Follows-checked, IsBytes, Reads, Reads-as, Reads-checked, Reads-coded, Reads-led, Reads-mapped, Takes, all_bytes, bind_some, byte_reads, chosen, mapped_takes, bytes_follow, itself, some_is, times_follow}
+use Rattle.gt_records.proofs.Laws.{Follows, Follows-checked, IsBytes, Reads, Reads-as, Reads-checked, Reads-coded, Reads-led, Reads-mapped, Takes, all_bytes, bind_some, byte_reads, bytes_follow, itself, some_is, times_follow}
 use Rattle.gt_records.proofs.LimitLaws.{is_list, is_string}
 use Rattle.gt_types.specs.declared.rule.Principal.{Principal}
 use Rattle.gt_types.specs.declared.rule.Principal.TheVariants.{AllAuthenticated, Anonymous, Group, Identity}

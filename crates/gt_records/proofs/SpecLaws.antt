@@ -1,9 +1,8 @@
 -- Specifications are read as they are written.
-use Rattle.std.proofs.Common.{◌≡◌, ℕ, zero, suc, ◌+◌, ◌*◌, ◌<◌, ◌%◌, ◌/◌, ◌^◌, Bool, true, false, not, ◌&&◌, eqb, ltb, leb, List, ◌++◌, length, Option, Some, None, refl, sym, ap, subst, append_assoc, arith}
+use Rattle.std.proofs.Common.{◌≡◌, ℕ, zero, suc, ◌+◌, ◌*◌, ◌<◌, ◌%◌, ◌/◌, ◌^◌, Bool, true, false, ◌&&◌, eqb, ltb, leb, List, ◌++◌, length, Option, Some, None, refl, sym, ap, subst, append_assoc, arith}
 use Rattle.std.specs.Int.{w32}
-use Rattle.std.specs.List.{list_all}
 use Rattle.std.proofs.lemmas.Bool.{and_from, and_parts, leb-true, ltb-true}
-use Rattle.gt_paths.specs.Path.{is_path, overlaps}
+use Rattle.gt_paths.specs.Path.{is_path}
 use Rattle.gt_records.specs.declared.spec.Flags.{Flags}
 use Rattle.gt_records.specs.Fields.{boolean_code, boolean_text, byte_text, list_text, moment_text, number_text, option_text, path_text, principal_text, string_text}
 use Rattle.gt_records.specs.Reading.{byte_at, coded_at, mapped, number_at, ◌⊗◌}
@@ -12,7 +11,7 @@ use Rattle.gt_records.specs.ReadingSpecs.{SpecFields, access_spec_at, entry_at, 
 use Rattle.gt_records.specs.RecordText.{access_spec_text, entry_text, filter_rule_text, flags_code, kept_text, kind_code, recursive_code, transfer_spec_text}
 use Rattle.gt_records.proofs.FieldLaws.{boolean_reads, list_reads, moment_reads, option_reads, path_reads, principal_reads, string_reads, u32_reads}
 use Rattle.gt_records.proofs.Laws.{Reads, Reads-as, Reads-both, Reads-checked, Reads-coded, Reads-mapped, byte_reads, guard_some, some_is}
-use Rattle.gt_records.proofs.LimitLaws.{if_there-map, is_list, is_string, label_is_string, list_all-both, list_all-map, pattern_is_string, same_answer, short_list}
+use Rattle.gt_records.proofs.LimitLaws.{if_there-map, is_list, is_string, label_is_string, list_all-map, pattern_is_string, same_answer, short_list}
 use Rattle.gt_records.proofs.SpecParts.{spec_parts}
 use Rattle.gt_types.specs.declared.listing.Kind.{Kind}
 use Rattle.gt_types.specs.declared.listing.Kind.TheVariants.{File, Folder}
@@ -20,7 +19,7 @@ use Rattle.gt_types.specs.declared.rule.AccessSpec.{AccessSpec}
 use Rattle.gt_types.specs.declared.spec.FilterRule.{FilterRule}
 use Rattle.gt_types.specs.declared.spec.TransferEntry.{TransferEntry}
 use Rattle.gt_types.specs.declared.spec.TransferSpec.{TransferSpec}
-use Rattle.gt_types.specs.Forms.{is_entries, is_kept, is_label, is_pattern, is_principal}
+use Rattle.gt_types.specs.Forms.{is_label, is_pattern, is_principal}
 use Rattle.gt_types.specs.SpecForms.{is_access_spec, is_transfer_entry, is_transfer_spec}
 use Rattle.gt_values.specs.Forms.{if_there, is_moment}
 

@@ -12,8 +12,6 @@ mod field;
 mod path;
 mod reader;
 mod spec;
-#[cfg(test)]
-mod tests;
 mod unique;
 mod value;
 

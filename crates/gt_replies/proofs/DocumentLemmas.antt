@@ -1,5 +1,5 @@
 -- The documents have no float, so that their texts are exact, and their members stand in order.
-use Rattle.std.proofs.Common.{◌≡◌, ◌∷◌, [], ℕ, List, Option, Some, None, Bool, true, false, codes, if◌then◌else◌, refl}
+use Rattle.std.proofs.Common.{◌≡◌, ◌∷◌, [], ℕ, List, Option, Some, None, Bool, true, false, refl}
 use Rattle.gt_setup.specs.Setup.{Setup}
 use Rattle.gt_types.specs.declared.code.Reason.{Reason}
 use Rattle.gt_types.specs.declared.reply.AccessDocument.{AccessDocument}

@@ -12,8 +12,6 @@ mod member;
 mod reply;
 mod rule;
 mod task;
-#[cfg(test)]
-mod tests;
 
 pub use laws::{documents_are_spelled, members_ascend, statuses_have_three_digits};
 pub use reply::{write_refusal, write_reply};

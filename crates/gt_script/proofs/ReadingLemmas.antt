@@ -3,7 +3,7 @@ use Rattle.gt_setup.specs.Setup.{Setup}
 use Rattle.std.proofs.Common.{List, [], ap, append-nil, append_assoc, arith, inl, inr, length, length-append, refl, subst, sym, ⊎_elim, ◌++◌, ◌+◌, ◌∙◌, ◌∷◌, ◌≡◌, ◌⊎◌, ℕ}
 use Rattle.gt_script.proofs.LineTextLemmas.{one_text}
 use Rattle.gt_script.specs.Reading.{BeginsNoLine, EndsWithLine}
-use Rattle.gt_script.specs.Script.{EndsBehind, EndsWithNext, IsTextOf, Reads, ScriptText}
+use Rattle.gt_script.specs.Script.{EndsBehind, EndsWithNext, Reads, ScriptText}
 use Rattle.gt_script.specs.declared.line.Line.{Line}
 
 -- the text of the first of these lines, and what stands behind it

@@ -9,8 +9,6 @@ mod level;
 mod pattern;
 mod piece;
 mod reach;
-#[cfg(test)]
-mod tests;
 
 pub use filter::first_rule;
 pub use level::needs_copy;

@@ -12,8 +12,6 @@ mod parts;
 mod places;
 mod rows;
 mod setup;
-#[cfg(test)]
-mod tests;
 mod value;
 
 pub use fault::SetupFault;

@@ -7,8 +7,6 @@ mod items;
 mod key;
 mod laws;
 mod tally;
-#[cfg(test)]
-mod tests;
 
 pub use growth::Growth;
 pub use item::{Class, How, Item, ItemState};

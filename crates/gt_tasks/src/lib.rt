@@ -3,8 +3,6 @@
 
 mod row;
 mod tasks;
-#[cfg(test)]
-mod tests;
 
 pub use row::TaskRow;
 pub use tasks::Tasks;

@@ -20,8 +20,6 @@ mod outcome;
 mod reply;
 mod rule;
 mod spec;
-#[cfg(test)]
-mod tests;
 
 pub use act::{Act, Side, Want};
 pub use change::{DeadlineChange, LabelChange};

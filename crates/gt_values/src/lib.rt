@@ -15,8 +15,6 @@ mod moment;
 mod moment_text;
 mod sequence;
 mod table;
-#[cfg(test)]
-mod tests;
 mod text;
 
 pub use bytes::Bytes;

@@ -6,7 +6,7 @@ use Rattle.gt_types.specs.declared.command.Command.TheVariants.{IssueId}
 use Rattle.gt_types.specs.declared.event.Event.{Event}
 use Rattle.gt_types.specs.declared.event.Happening.TheVariants.{Issue}
 use Rattle.gt_types.specs.declared.reply.Reply.TheVariants.{Identifier}
-use Rattle.gt_world.specs.World.{Ask, NoMemory, Quiet, Reopen, Reopened, Replied, SetMoment, Unavailable, World, WorldStep, world_after, world_on}
+use Rattle.gt_world.specs.World.{Ask, NoMemory, Quiet, Reopen, Reopened, Replied, SetMoment, Unavailable, World, WorldStep, world_on}
 use Rattle.std.proofs.Common.{List, None, Some, [], ap, inl, inr, refl, rules, true, ◌∷◌, ◌≡◌, ℕ}
 use Rattle.std.proofs.Math.Nat.{le_refl}
 

@@ -8,7 +8,7 @@ use Rattle.gt_machine.specs.Run.{run_from, run_of}
 use Rattle.gt_machine.specs.Sound.{IsSound}
 use Rattle.gt_setup.specs.Setup.{Setup}
 use Rattle.gt_types.specs.declared.event.Event.{Event}
-use Rattle.std.proofs.Common.{Bool, List, Some, [], subst, sym, ⊎_elim, ◌++◌, ◌∷◌, ◌≡◌, ℕ}
+use Rattle.std.proofs.Common.{Bool, List, Some, [], subst, sym, ⊎_elim, ◌++◌, ◌∷◌, ◌≡◌}
 use Rattle.std.specs.List.{AllByRecursion}
 use Rattle.gt_world.specs.SoundRuns.{AreSound, IsSoundThroughout}
 use Rattle.gt_world.specs.World.{Ask, NoMemory, NotOpened, Quiet, Reopen, Reopened, Replied, SetMoment, Step, StepAnswer, Taken, Unavailable, World, WorldRun, WorldStep}

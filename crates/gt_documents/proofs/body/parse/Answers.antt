@@ -1,4 +1,4 @@
-use Rattle.std.proofs.Common.{◌≡◌, sym, ◌∙◌, true≢false, rules}
+use Rattle.std.proofs.Common.{sym, ◌∙◌, true≢false}
 use Rattle.serde_json.specs.Errors.{IsMemory}
 use Rattle.gt_documents.proofs.BodyLemmas.{value_of-read, value_of-refused}
 use Rattle.gt_documents.proofs.body.parse.Goals as goal

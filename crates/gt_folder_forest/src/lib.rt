@@ -1,0 +1,24 @@
+//! Folders of the system as a forest: `DirForest`, over any `Folders`.
+//!
+//! It tells nothing of what it holds: of each call it is proved that it fails only where it counts a fault, and what it may
+//! answer (`specs/Forest.antt`). What only the system can show is tested: that no link leads out of a collection, and that
+//! what a call answers to have done is on the disk.
+#![tactic(auto)]
+
+mod changing;
+mod forest;
+#[cfg(test)]
+mod forest_tests;
+mod leftovers;
+mod listing;
+mod reading;
+mod spot;
+mod staging;
+#[cfg(test)]
+mod strict;
+mod trail;
+mod trees;
+mod trouble;
+
+pub use forest::{DirForest, send_forest};
+pub use leftovers::Cleared;

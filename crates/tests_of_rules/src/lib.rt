@@ -1,0 +1,14 @@
+//! Tests of access rules, pause rules, claims and filter rules.
+//!
+//! There is nothing here but tests, each file for the crate that it is named after: a crate's tests are proved with the
+//! crate once more, and those of a crate of tests once.
+#![tactic(auto)]
+
+#[cfg(test)]
+mod access;
+#[cfg(test)]
+mod claims;
+#[cfg(test)]
+mod pauses;
+#[cfg(test)]
+mod select;

@@ -1,0 +1,12 @@
+//! Tests of the texts that are read and written: documents, records and replies.
+//!
+//! There is nothing here but tests, each file for the crate that it is named after: a crate's tests are proved with the
+//! crate once more, and those of a crate of tests once.
+#![tactic(auto)]
+
+#[cfg(test)]
+mod documents;
+#[cfg(test)]
+mod records;
+#[cfg(test)]
+mod replies;
