@@ -13,10 +13,10 @@ use Rattle.gt_machine.specs.Run.{run_from}
 use Rattle.gt_machine.specs.SoundRows.{HasOneTaskEach}
 use Rattle.gt_machine.specs.Step.{counted_state, may_come, step_of}
 use Rattle.gt_machine.specs.TaskSteps.{is_full, new_task, with_task}
-use Rattle.gt_machine.specs.Tasks.{is_of, number_of}
+use Rattle.gt_tasks.specs.Tasks.{is_of, number_of}
 use Rattle.gt_machine.specs.declared.decision.Decision.{Decision}
 use Rattle.gt_machine.specs.declared.decision.Decision.TheVariants.{Say}
-use Rattle.gt_machine.specs.declared.task.TaskRow.{TaskRow}
+use Rattle.gt_tasks.specs.declared.row.TaskRow.{TaskRow}
 use Rattle.gt_setup.specs.Setup.{Setup}
 use Rattle.gt_types.specs.SpecParts.{entry_count}
 use Rattle.gt_types.specs.declared.event.Event.{Event}

@@ -2,8 +2,8 @@
 use Rattle.std.specs.Prelude.{List, Some, [], slice_get, ℕ, ◌++◌, ◌∷◌, ◌≡◌}
 use Rattle.gt_desk.specs.History.{Ledger, Stands, StandsDuring}
 use Rattle.gt_disk.specs.Disk.{DiskWords, LeavesOnly}
-use Rattle.gt_machine.specs.declared.task.TaskRow.{TaskRow}
 use Rattle.gt_setup.specs.Setup.{Setup}
+use Rattle.gt_tasks.specs.declared.row.TaskRow.{TaskRow}
 use Rattle.gt_types.specs.declared.event.Event.{Event}
 
 -- a call of any kind that was made: the events that moved the desk, and the disk and the ledger after it

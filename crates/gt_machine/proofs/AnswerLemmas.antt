@@ -9,9 +9,9 @@ use Rattle.gt_machine.specs.MachineState.{MachineState}
 use Rattle.gt_machine.specs.Sound.{IsNumberedState, IsWithinLimits}
 use Rattle.gt_machine.specs.SoundRows.{IsNumbered}
 use Rattle.gt_machine.specs.TaskSteps.{can_issue, is_full}
-use Rattle.gt_machine.specs.Tasks.{is_of, number_of}
+use Rattle.gt_tasks.specs.Tasks.{is_of, number_of}
 use Rattle.gt_machine.specs.declared.decision.Decision.TheVariants.{Say}
-use Rattle.gt_machine.specs.declared.task.TaskRow.{TaskRow}
+use Rattle.gt_tasks.specs.declared.row.TaskRow.{TaskRow}
 use Rattle.gt_machine.proofs.OneLive.{found_at}
 use Rattle.gt_setup.specs.Setup.{Setup}
 use Rattle.gt_types.specs.Reply.{is_printable}

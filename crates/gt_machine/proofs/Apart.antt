@@ -13,11 +13,11 @@ use Rattle.gt_types.specs.declared.spec.Spec.{Spec}
 use Rattle.gt_types.specs.declared.spec.Spec.TheVariants.{Transfer as OfTransfer}
 use Rattle.gt_types.specs.declared.spec.TransferEntry.{TransferEntry}
 use Rattle.gt_types.specs.declared.spec.TransferSpec.{TransferSpec}
-use Rattle.gt_machine.specs.Growth.{entry_items, first_acts, transfer_of}
+use Rattle.gt_subtasks.specs.Growth.{entry_items, first_acts, transfer_of}
 use Rattle.gt_machine.specs.MachineState.{MachineState}
 use Rattle.gt_machine.specs.SoundRows.{IsApart, IsOfTask}
-use Rattle.gt_machine.specs.declared.item.Item.{Item}
-use Rattle.gt_machine.specs.declared.task.TaskRow.{TaskRow}
+use Rattle.gt_subtasks.specs.declared.item.Item.{Item}
+use Rattle.gt_tasks.specs.declared.row.TaskRow.{TaskRow}
 use Rattle.gt_machine.proofs.Effects.{first_holds, second_holds}
 use Rattle.gt_machine.proofs.ItemKeys.{ItemKey, item_key, item_keys, row-append, split_at}
 use Rattle.gt_machine.proofs.OneTask.{length-keys}

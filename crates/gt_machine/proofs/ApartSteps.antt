@@ -10,12 +10,12 @@ use Rattle.gt_types.specs.declared.spec.Spec.{Spec}
 use Rattle.gt_types.specs.declared.spec.Spec.TheVariants.{Transfer as OfTransfer}
 use Rattle.gt_values.specs.Forms.{is_moment}
 use Rattle.gt_setup.specs.Setup.{Setup}
-use Rattle.gt_machine.specs.Growth.{entry_items, first_acts}
+use Rattle.gt_subtasks.specs.Growth.{entry_items, first_acts}
 use Rattle.gt_machine.specs.MachineState.{MachineState}
 use Rattle.gt_machine.specs.Step.{effect_of, is_allowed, step_of}
 use Rattle.gt_machine.specs.TaskSteps.{new_task, submit_step}
-use Rattle.gt_machine.specs.declared.item.Item.{Item}
-use Rattle.gt_machine.specs.declared.task.TaskRow.{TaskRow}
+use Rattle.gt_subtasks.specs.declared.item.Item.{Item}
+use Rattle.gt_tasks.specs.declared.row.TaskRow.{TaskRow}
 use Rattle.gt_machine.proofs.Apart.{AllApart, AllTaskApart, apart-entries, apart-more_items, apart-more_tasks, new_row, transfer_apart}
 use Rattle.gt_machine.proofs.Effects.{and_then_is, first_holds, only_if_is, second_holds}
 use Rattle.gt_machine.proofs.ItemKeys.{ItemKey, item_keys, item_keys-append}

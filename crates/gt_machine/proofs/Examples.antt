@@ -4,24 +4,17 @@ use Rattle.std.specs.Prelude.{is_some, option_map}
 use Rattle.std.specs.Str.{chars, is_utf8}
 use lib.Utf8.{encode}
 use Rattle.gt_machine.specs.Answer.{answer_of, submitted}
-use Rattle.gt_machine.specs.Growth.{first_acts, first_items, new_item}
 use Rattle.gt_machine.specs.MachineState.{MachineState}
 use Rattle.gt_machine.specs.Run.{run_of}
 use Rattle.gt_machine.specs.Step.{step_of}
 use Rattle.gt_machine.specs.TaskLine.{task_lines}
-use Rattle.gt_machine.specs.TaskSteps.{new_task}
-use Rattle.gt_machine.specs.Tasks.{status_of}
 use Rattle.gt_machine.specs.declared.decision.Decision.{Decision}
 use Rattle.gt_machine.specs.declared.decision.Decision.TheVariants.{Do, Say}
 use Rattle.gt_machine.specs.declared.line.TaskLine.{TaskLine}
-use Rattle.gt_machine.specs.declared.task.TaskRow.{TaskRow}
 use Rattle.gt_setup.specs.Setup.{Setup}
 use Rattle.gt_setup.specs.declared.parts.Collection.{Collection}
 use Rattle.gt_setup.specs.declared.parts.Identity.{Identity as SetupIdentity}
-use Rattle.gt_types.specs.declared.act.Act.TheVariants.{Erase as EraseAct, Transfer as MoveAct}
-use Rattle.gt_types.specs.declared.act.Want.TheVariants.{Either, File as AFile, Folder as AFolder}
-use Rattle.gt_types.specs.declared.code.Reason.TheVariants.{Canceled as ByOwner}
-use Rattle.gt_types.specs.declared.code.Status.TheVariants.{Active, Failed as TaskFailed, Succeeded as TaskSucceeded}
+use Rattle.gt_types.specs.declared.code.Status.TheVariants.{Active}
 use Rattle.gt_types.specs.declared.command.Command.TheVariants.{IssueId, SubmitTransfer as AskTransfer}
 use Rattle.gt_types.specs.declared.event.Event.{Event}
 use Rattle.gt_types.specs.declared.event.Happening.{Happening}
@@ -31,8 +24,6 @@ use Rattle.gt_types.specs.declared.reply.Reply.{Reply}
 use Rattle.gt_types.specs.declared.reply.Reply.TheVariants.{Identifier}
 use Rattle.gt_types.specs.declared.rule.AccessSpec.{AccessSpec}
 use Rattle.gt_types.specs.declared.rule.Principal.TheVariants.{Anonymous, Identity}
-use Rattle.gt_types.specs.declared.spec.DeleteSpec.{DeleteSpec}
-use Rattle.gt_types.specs.declared.spec.Spec.TheVariants.{Delete as OfDelete, Transfer as OfTransfer}
 use Rattle.gt_types.specs.declared.spec.TransferEntry.{TransferEntry}
 use Rattle.gt_types.specs.declared.spec.TransferSpec.{TransferSpec}
 
@@ -222,32 +213,3 @@ line number items = record { number = number; is_delete = false; status = Active
 pub lines_shown : option_map task_lines (run_of desk submissions) ≡ Some (line 1 1 ∷ line 2 2 ∷ [])
 unfolding is_utf8 chars encode
 lines_shown = refl
-
--- a task begins with a waiting item for each entry, in order, with what its member `recursive` asks for
-pub growth_begins : first_items 3 7 (OfTransfer (transfer 0 1 (record (entry at_e at_d) { recursive = Some true } ∷ entry at_d at_e ∷ [])))
-    ≡ new_item 7 3 None 0 (MoveAct at_e at_d AFolder) ∷ new_item 8 3 None 1 (MoveAct at_d at_e Either) ∷ []
-growth_begins = refl
-
-abbrev deletion : Bool → DeleteSpec
-deletion recursive = record {
-  collection = 0;
-  label = None;
-  deadline = None;
-  recursive = recursive;
-  ignore_missing = false;
-  kept = record { given = 0; set = 0 };
-  entries = at_e ∷ [];
-}
-
--- an entry of a deletion is erased, with what is below it only where that was asked
-pub deletion_begins : map (λ recursive. first_acts (OfDelete (deletion recursive))) (true ∷ false ∷ [])
-    ≡ (EraseAct at_e Either ∷ []) ∷ (EraseAct at_e AFile ∷ []) ∷ []
-deletion_begins = refl
-
-abbrev row : TaskRow
-row = new_task 1 100 ann (id 1) (OfTransfer one_file)
-
--- a task is active until it is complete, also while it closes
-pub statuses : map status_of (row ∷ record row { closing = Some ByOwner } ∷ record row { completed = Some 130 } ∷ record row { closing = Some ByOwner; completed = Some 130 } ∷ [])
-    ≡ Active ∷ Active ∷ TaskSucceeded ∷ TaskFailed ∷ []
-statuses = refl

@@ -15,13 +15,13 @@ use Rattle.gt_types.specs.declared.spec.Spec.{Spec}
 use Rattle.gt_types.specs.declared.spec.Spec.TheVariants.{Delete as OfDelete, Transfer as OfTransfer}
 use Rattle.gt_types.specs.declared.spec.TransferSpec.{TransferSpec}
 use Rattle.gt_setup.specs.Setup.{Setup}
-use Rattle.gt_machine.specs.Growth.{entry_items, first_acts, first_items, new_item}
-use Rattle.gt_machine.specs.Item.{items_of}
+use Rattle.gt_subtasks.specs.Growth.{entry_items, first_acts, first_items, new_item}
+use Rattle.gt_subtasks.specs.Item.{items_of}
 use Rattle.gt_machine.specs.MachineState.{MachineState, empty_state}
 use Rattle.gt_machine.specs.Step.{effect_of, step_of}
 use Rattle.gt_machine.specs.TaskSteps.{new_task, submit_step}
-use Rattle.gt_machine.specs.declared.item.Item.{Item}
-use Rattle.gt_machine.specs.declared.task.TaskRow.{TaskRow}
+use Rattle.gt_subtasks.specs.declared.item.Item.{Item}
+use Rattle.gt_tasks.specs.declared.row.TaskRow.{TaskRow}
 use Rattle.gt_machine.proofs.ApartSteps.{has_values}
 use Rattle.gt_machine.proofs.Effects.{and_then_is, first_holds, only_if_is, second_holds}
 use Rattle.gt_machine.proofs.Limits.{length-map}

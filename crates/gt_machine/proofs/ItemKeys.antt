@@ -4,7 +4,7 @@ use Rattle.std.specs.Prelude.{slice_get}
 use Rattle.std.specs.Option.{option_map}
 use Rattle.std.proofs.lemmas.Option.{slice_get-map}
 use Rattle.gt_types.specs.declared.act.Act.{Act}
-use Rattle.gt_machine.specs.declared.item.Item.{Item}
+use Rattle.gt_subtasks.specs.declared.item.Item.{Item}
 use Rattle.gt_values.specs.Rows.{row_at}
 
 pub record ItemKey : Type 0 where

@@ -9,12 +9,12 @@ use Rattle.gt_types.specs.declared.event.Happening.TheVariants.{AccessAdd, Acces
 use Rattle.gt_types.specs.declared.spec.Spec.{Spec}
 use Rattle.gt_types.specs.declared.spec.Spec.TheVariants.{Transfer as OfTransfer}
 use Rattle.gt_setup.specs.Setup.{Setup}
-use Rattle.gt_machine.specs.Growth.{entry_items, first_acts}
+use Rattle.gt_subtasks.specs.Growth.{entry_items, first_acts}
 use Rattle.gt_machine.specs.MachineState.{MachineState}
 use Rattle.gt_machine.specs.SoundRows.{IsNumbered}
 use Rattle.gt_machine.specs.Step.{effect_of, step_of}
 use Rattle.gt_machine.specs.TaskSteps.{submit_step}
-use Rattle.gt_machine.specs.declared.item.Item.{Item}
+use Rattle.gt_subtasks.specs.declared.item.Item.{Item}
 use Rattle.gt_machine.proofs.Effects.{and_then_is, only_if_is}
 use Rattle.gt_machine.proofs.Runs.{StepParts, step_is}
 

@@ -1,7 +1,6 @@
 mod Runs
 mod Effects
 mod Moments
-mod Classes
 mod TaskKeys
 mod OneTask
 mod ItemNumbers
@@ -16,7 +15,6 @@ mod Lives
 mod Limits
 mod FewItems
 mod OfSetup
-mod CappedSums
 mod StepLemmas
 mod StepAnswers
 mod AnswerLemmas

@@ -13,7 +13,7 @@ use Rattle.gt_types.specs.declared.event.Happening.TheVariants.{AccessAdd, Acces
 use Rattle.gt_types.specs.declared.spec.Spec.{Spec}
 use Rattle.gt_types.specs.declared.spec.Spec.TheVariants.{Transfer as OfTransfer, Delete as OfDelete}
 use Rattle.gt_setup.specs.Setup.{Setup}
-use Rattle.gt_machine.specs.Growth.{entry_items, first_acts, first_items}
+use Rattle.gt_subtasks.specs.Growth.{entry_items, first_acts, first_items}
 use Rattle.gt_machine.specs.MachineState.{MachineState, empty_state}
 use Rattle.gt_machine.specs.RuleSteps.{has_room}
 use Rattle.gt_machine.specs.Step.{effect_of, step_of}

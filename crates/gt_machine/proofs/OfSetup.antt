@@ -17,7 +17,7 @@ use Rattle.gt_types.specs.declared.spec.TransferEntry.{TransferEntry}
 use Rattle.gt_types.specs.declared.spec.TransferSpec.{TransferSpec}
 use Rattle.gt_values.specs.Forms.{if_there, is_id, is_moment}
 use Rattle.gt_setup.specs.Setup.{Setup, has_identity}
-use Rattle.gt_machine.specs.Growth.{entry_items, first_items, transfer_of}
+use Rattle.gt_subtasks.specs.Growth.{entry_items, first_items, transfer_of}
 use Rattle.gt_machine.specs.MachineState.{MachineState, empty_state}
 use Rattle.gt_machine.specs.RuleSteps.{replaced_spec}
 use Rattle.gt_machine.specs.Sound.{IsOfSetup}

@@ -5,8 +5,8 @@ use Rattle.std.specs.Option.{option_map}
 use Rattle.std.proofs.lemmas.Option.{slice_get-map}
 use lib.Pointwise.{bytes_decides}
 use Rattle.gt_types.specs.declared.event.Event.{Event}
-use Rattle.gt_machine.specs.Tasks.{is_of, number_of}
-use Rattle.gt_machine.specs.declared.task.TaskRow.{TaskRow}
+use Rattle.gt_tasks.specs.Tasks.{is_of, number_of}
+use Rattle.gt_tasks.specs.declared.row.TaskRow.{TaskRow}
 use Rattle.gt_setup.specs.Setup.{Setup}
 use Rattle.gt_machine.specs.MachineState.{MachineState}
 use Rattle.gt_machine.specs.SoundRows.{HasOneTaskEach, IsNumbered}

@@ -6,7 +6,7 @@ use Rattle.gt_machine.specs.Answer.{HasStep, answer_of, doing, event_at, is_answ
 use Rattle.gt_machine.specs.MachineState.{MachineState}
 use Rattle.gt_machine.specs.Step.{counted_state}
 use Rattle.gt_machine.specs.TaskSteps.{can_issue, is_full}
-use Rattle.gt_machine.specs.Tasks.{number_of}
+use Rattle.gt_tasks.specs.Tasks.{number_of}
 use Rattle.gt_machine.specs.declared.decision.Decision.TheVariants.{Say}
 use Rattle.gt_machine.proofs.Effects.{first_holds, second_holds}
 use Rattle.gt_machine.proofs.StepLemmas.{both_hold, comes, only_if_some, step_there}

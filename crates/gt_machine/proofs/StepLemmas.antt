@@ -1,5 +1,5 @@
 -- When an event has a step, and a record.
-use Rattle.std.proofs.Common.{◌≡◌, ◌≤◌, ℕ, ◌+◌, length, Bool, true, false, Option, Some, None, refl, sym, ap, arith, rules}
+use Rattle.std.proofs.Common.{◌≡◌, ◌≤◌, ℕ, ◌+◌, List, [], ◌∷◌, ◌++◌, ◌∙◌, length, Bool, true, false, Option, Some, None, refl, sym, ap, arith, rules}
 use Rattle.std.specs.Prelude.{IsSome, is_some, nat_le, if◌then◌else◌, ◌&&◌}
 use Rattle.std.specs.Option.{option_map}
 use Rattle.gt_access.specs.Rule.{live_access}
@@ -7,11 +7,17 @@ use Rattle.gt_machine.proofs.Effects.{and_then_is, only_if_is}
 use Rattle.gt_machine.specs.MachineState.{MachineState}
 use Rattle.gt_machine.specs.RuleSteps.{only_if}
 use Rattle.gt_machine.specs.Step.{counted_state, effect_of, is_allowed, may_come, next_of, step_of}
+use Rattle.gt_machine.specs.TaskSteps.{new_task, submit_step, with_task}
 use Rattle.gt_setup.specs.Setup.{Setup}
+use Rattle.gt_subtasks.specs.Growth.{first_items, numbered}
+use Rattle.gt_subtasks.specs.declared.item.Item.{Item}
+use Rattle.gt_tasks.specs.Tasks.{added_task}
+use Rattle.gt_tasks.specs.declared.row.TaskRow.{TaskRow}
 use Rattle.gt_types.specs.Event.{is_recordable}
 use Rattle.gt_types.specs.declared.event.Event.{Event}
 use Rattle.gt_types.specs.declared.event.Happening.{Happening}
 use Rattle.gt_types.specs.declared.event.Happening.TheVariants.{AccessAdd, AccessEnd, AccessReplace, Issue, SubmitTransfer}
+use Rattle.gt_types.specs.declared.spec.Spec.{Spec}
 
 pub both_hold : (a b : Bool) → a ≡ true → b ≡ true → (a && b) ≡ true
 both_hold true b in_a in_b = in_b
@@ -71,3 +77,26 @@ effect_uncounted k moment (AccessReplace rule write) m next is =
     let found = and_then_is _ (live_access rule m.access) next is in ap (λ (n : MachineState). n.events) (sym (only_if_is _ _ next found.2).1)
 effect_uncounted k moment (AccessEnd rule) m next is = ap (λ (n : MachineState). n.events) (sym (only_if_is _ _ next is).1)
 effect_uncounted k moment _ m next is = absurd (cc)
+
+-- the step of a submission, by what its rows became
+pub submit_made : (moment : ℕ) (owner submission : List ℕ) (spec : Spec) (m : MachineState) (row : TaskRow) (growth items : List Item) (tasks : List TaskRow)
+    → IsSome (submit_step moment owner submission spec m) → row ≡ new_task 0 moment owner submission spec
+    → growth ≡ first_items (length m.tasks + 1) (length m.items + 1) spec
+    → numbered (length m.items + 1) (first_items (length m.tasks + 1) (length m.items + 1) spec) ≡ first_items (length m.tasks + 1) (length m.items + 1) spec
+    → tasks ≡ added_task row m.tasks → items ≡ m.items ++ numbered (length m.items + 1) growth
+    → submit_step moment owner submission spec m ≡ Some (record m { tasks = tasks; items = items })
+submit_made moment owner submission spec m row growth items tasks there is_row is_growth stay in_tasks in_items =
+    only_then _ (with_task moment owner submission spec m) there
+    ∙ (λ i. Some (record m { tasks = sym tasks_are i; items = sym items_are i }))
+  where
+    only_then : (test : Bool) (x : MachineState) → IsSome (only_if test x) → only_if test x ≡ Some x
+    only_then true x is = refl
+    only_then false x is = absurd (cc)
+
+    tasks_are : tasks ≡ m.tasks ++ new_task (length m.tasks + 1) moment owner submission spec ∷ []
+    tasks_are = in_tasks ∙ ap (λ (r : TaskRow). added_task r m.tasks) is_row
+
+    items_are : items ≡ m.items ++ first_items (length m.tasks + 1) (length m.items + 1) spec
+    items_are =
+        in_items ∙ ap (λ (g : List Item). m.items ++ numbered (length m.items + 1) g) is_growth
+        ∙ ap (λ (g : List Item). m.items ++ g) stay

@@ -11,8 +11,8 @@ use Rattle.gt_setup.specs.Setup.{Setup}
 use Rattle.gt_machine.specs.MachineState.{MachineState}
 use Rattle.gt_machine.specs.Step.{effect_of, step_of}
 use Rattle.gt_machine.specs.TaskSteps.{new_task, submit_step}
-use Rattle.gt_machine.specs.Tasks.{number_of}
-use Rattle.gt_machine.specs.declared.task.TaskRow.{TaskRow}
+use Rattle.gt_tasks.specs.Tasks.{number_of}
+use Rattle.gt_tasks.specs.declared.row.TaskRow.{TaskRow}
 use Rattle.gt_machine.proofs.Effects.{and_then_is, only_if_is}
 use Rattle.gt_machine.proofs.Runs.{StepParts, step_is}
 

@@ -4,10 +4,10 @@ use Rattle.std.specs.Prelude.{Bool, IsSome, IsTrue, List, false, if◌then◌els
 use Rattle.gt_machine.specs.MachineState.{MachineState}
 use Rattle.gt_machine.specs.Step.{step_of}
 use Rattle.gt_machine.specs.TaskSteps.{can_issue, is_full}
-use Rattle.gt_machine.specs.Tasks.{number_of}
 use Rattle.gt_machine.specs.declared.decision.Decision.{Decision}
 use Rattle.gt_machine.specs.declared.decision.Decision.TheVariants.{Do, Say}
 use Rattle.gt_setup.specs.Setup.{Setup}
+use Rattle.gt_tasks.specs.Tasks.{number_of}
 use Rattle.gt_types.specs.Event.{is_recordable, recordable_collections}
 use Rattle.gt_types.specs.declared.command.Command.{Command}
 use Rattle.gt_types.specs.declared.command.Command.TheVariants.{AddAccess, AddPause, CancelTask, EndAccess, EndPause, IssueId, ListAccess, ListPauses, ListSkipped, ListSuccesses, ListTasks, ReplaceAccess, ShowAccess, ShowEndpoint, ShowPause, ShowTask, SubmitDelete as AskDelete, SubmitTransfer as AskTransfer, UpdateTask}

@@ -2,15 +2,15 @@
 use Rattle.std.specs.Option.{option_map_or}
 use Rattle.std.specs.Prelude.{Bool, IsSome, List, [], length, ℕ, ◌+◌, ◌<◌, ◌^◌, ◌≡◌, ◌≤◌}
 use Rattle.gt_access.specs.Rule.{live_access}
-use Rattle.gt_machine.specs.Growth.{first_items}
 use Rattle.gt_machine.specs.MachineState.{MachineState}
 use Rattle.gt_machine.specs.RuleSteps.{replaced_spec}
 use Rattle.gt_machine.specs.Step.{step_of}
 use Rattle.gt_machine.specs.declared.change.Change.{Change}
 use Rattle.gt_machine.specs.declared.change.Prepared.{Prepared}
 use Rattle.gt_machine.specs.declared.change.Prepared.TheVariants.{Access as ForAccess, Nothing, Task as ForTask}
-use Rattle.gt_machine.specs.declared.item.Item.{Item}
 use Rattle.gt_setup.specs.Setup.{Setup}
+use Rattle.gt_subtasks.specs.Growth.{first_items}
+use Rattle.gt_subtasks.specs.declared.item.Item.{Item}
 use Rattle.gt_types.specs.SpecParts.{label_of}
 use Rattle.gt_types.specs.declared.event.Happening.{Happening}
 use Rattle.gt_types.specs.declared.event.Happening.TheVariants.{AccessAdd, AccessEnd, AccessReplace, Cancel, GrantItem, Issue, PauseAdd, PauseEnd, RefuseItem, ReportItem, Restart, SubmitDelete, SubmitTransfer, Sweep, Update}

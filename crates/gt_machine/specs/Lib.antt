@@ -1,9 +1,6 @@
 pub mod Answer
 pub mod Change
-pub mod Count
 pub mod Decision
-pub mod Growth
-pub mod Item
 pub mod MachineState
 pub mod RuleSteps
 pub mod Run
@@ -13,4 +10,3 @@ pub mod SoundValues
 pub mod Step
 pub mod TaskLine
 pub mod TaskSteps
-pub mod Tasks

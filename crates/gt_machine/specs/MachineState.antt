@@ -1,8 +1,8 @@
 -- The state of the machine.
 use Rattle.std.specs.Prelude.{List, Option, [], ℕ}
 use Rattle.gt_access.specs.declared.row.AccessRow.{AccessRow}
-use Rattle.gt_machine.specs.declared.item.Item.{Item}
-use Rattle.gt_machine.specs.declared.task.TaskRow.{TaskRow}
+use Rattle.gt_subtasks.specs.declared.item.Item.{Item}
+use Rattle.gt_tasks.specs.declared.row.TaskRow.{TaskRow}
 use Rattle.gt_values.specs.Rows.{row_at}
 
 -- the rows in order of making, and three counts

@@ -1,10 +1,10 @@
 -- What holds in the state that a history leads to.
 use Rattle.std.specs.Prelude.{All, IsTrue, List, length, ℕ, ◌-◌, ◌^◌, ◌≡◌, ◌≤◌}
-use Rattle.gt_machine.specs.Item.{items_of}
 use Rattle.gt_machine.specs.MachineState.{MachineState}
 use Rattle.gt_machine.specs.SoundRows.{HasOneLive, HasOneTaskEach, HasParentBefore, IsLife, IsNumbered, IsOfTask, rule_key}
 use Rattle.gt_machine.specs.SoundValues.{HasPaths, IsRuleOfSetup, IsTaskOfSetup}
 use Rattle.gt_setup.specs.Setup.{Setup}
+use Rattle.gt_subtasks.specs.Item.{items_of}
 use Rattle.gt_types.specs.declared.event.Event.{Event}
 use Rattle.gt_values.specs.Forms.{is_moment}
 

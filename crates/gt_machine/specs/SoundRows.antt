@@ -2,9 +2,9 @@
 use Rattle.std.specs.Prelude.{IsNone, IsSomeAnd, List, Option, Some, false, slice_get, ℕ, ◌+◌, ◌<◌, ◌≡◌, ◌≤◌}
 use Rattle.gt_access.specs.declared.row.AccessRow.{AccessRow}
 use Rattle.gt_machine.specs.MachineState.{MachineState, item_at, task_at}
-use Rattle.gt_machine.specs.declared.item.Item.{Item}
-use Rattle.gt_machine.specs.declared.task.TaskRow.{TaskRow}
 use Rattle.gt_paths.specs.Path.{PathValue, overlaps}
+use Rattle.gt_subtasks.specs.declared.item.Item.{Item}
+use Rattle.gt_tasks.specs.declared.row.TaskRow.{TaskRow}
 use Rattle.gt_types.specs.SpecParts.{destination_of, source_of}
 use Rattle.gt_types.specs.declared.act.Act.{Act}
 use Rattle.gt_types.specs.declared.act.Act.TheVariants.{Erase, RemoveFolder, Transfer}

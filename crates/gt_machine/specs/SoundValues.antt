@@ -1,10 +1,10 @@
 -- What the values of rows keep to in each state that events lead to.
 use Rattle.std.specs.Prelude.{Bool, IsTrue, length, ◌&&◌, ◌<◌}
 use Rattle.gt_access.specs.declared.row.AccessRow.{AccessRow}
-use Rattle.gt_machine.specs.declared.item.Item.{Item}
-use Rattle.gt_machine.specs.declared.task.TaskRow.{TaskRow}
 use Rattle.gt_paths.specs.Path.{is_path}
 use Rattle.gt_setup.specs.Setup.{Setup, has_identity}
+use Rattle.gt_subtasks.specs.declared.item.Item.{Item}
+use Rattle.gt_tasks.specs.declared.row.TaskRow.{TaskRow}
 use Rattle.gt_types.specs.Forms.{is_label}
 use Rattle.gt_types.specs.SpecForms.{is_access_spec, is_delete_spec, is_transfer_spec}
 use Rattle.gt_types.specs.SpecParts.{destination_of, source_of}

@@ -1,10 +1,10 @@
 -- What the events of identifiers and tasks do, and when they have no step.
 use Rattle.std.specs.Prelude.{Bool, List, None, Option, [], is_none, length, nat_le, nat_lt, not, ℕ, ◌&&◌, ◌++◌, ◌+◌, ◌-◌, ◌^◌, ◌||◌, ◌∷◌}
-use Rattle.gt_machine.specs.Growth.{first_items}
 use Rattle.gt_machine.specs.MachineState.{MachineState}
 use Rattle.gt_machine.specs.RuleSteps.{only_if}
-use Rattle.gt_machine.specs.Tasks.{number_of}
-use Rattle.gt_machine.specs.declared.task.TaskRow.{TaskRow}
+use Rattle.gt_subtasks.specs.Growth.{first_items}
+use Rattle.gt_tasks.specs.Tasks.{number_of}
+use Rattle.gt_tasks.specs.declared.row.TaskRow.{TaskRow}
 use Rattle.gt_types.specs.SpecParts.{deadline_of, entry_count, label_of}
 use Rattle.gt_types.specs.declared.spec.Spec.{Spec}
 

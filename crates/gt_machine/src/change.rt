@@ -1,6 +1,6 @@
-use crate::item::Item;
+use gt_subtasks::Growth;
 use gt_types::{AccessSpec, Event};
-use gt_values::{Sequence, Text};
+use gt_values::Text;
 use thiserror::Error;
 
 /// What the step of an event takes memory for.
@@ -8,14 +8,9 @@ use thiserror::Error;
 pub enum Prepared {
     Nothing,
     /// The label of a new task, and its first items.
-    Task {
-        label: Option<Text>,
-        items: Sequence<Item>,
-    },
+    Task { label: Option<Text>, items: Growth },
     /// What an access rule becomes.
-    Access {
-        spec: AccessSpec,
-    },
+    Access { spec: AccessSpec },
 }
 
 /// An event that has a step, with all that the step takes memory for: a step that was planned and not yet made.

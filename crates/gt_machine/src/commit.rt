@@ -8,7 +8,8 @@ ghost use Rattle.gt_types.specs.declared.spec.Spec.TheVariants.{Transfer as OfTr
 
 use crate::change::{Change, Prepared};
 use crate::state::State;
-use crate::task::TaskRow;
+use gt_subtasks::first_items_keep_their_numbers;
+use gt_tasks::TaskRow;
 use gt_types::{AccessSpec, Event, Happening, Spec, TransferSpec};
 use gt_values::{Id, Moment, Text};
 
@@ -86,10 +87,11 @@ impl State {
             ≡ Some self.new.machine }
     {
         if let Prepared::Task { label, items } = prepared {
-            let number = self.tasks.len() as u64 + 1;
-            self.tasks
-                .add(row_of(number, moment, owner, submission, label, spec));
-            self.items.append(items.into_vec());
+            let row = row_of(moment, owner, submission, label, spec);
+            let _number = self.tasks.add(row);
+            // For the proof: the items bear the numbers that they get.
+            first_items_keep_their_numbers();
+            self.items.add(items);
         }
     }
 
@@ -121,9 +123,8 @@ impl State {
     }
 }
 
-// The row of a new task.
+// The row of a new task; the table gives it its number.
 fn row_of(
-    number: u64,
     moment: Moment,
     owner: Id,
     submission: Id,
@@ -131,10 +132,10 @@ fn row_of(
     spec: TransferSpec,
 ) -> TaskRow
     requires { label ≡ spec.label }
-    ensures { result ≡ new_task number moment owner submission (OfTransfer spec) }
+    ensures { result ≡ new_task 0 moment owner submission (OfTransfer spec) }
 {
     TaskRow {
-        number,
+        number: 0,
         owner,
         submission,
         label,

@@ -9,7 +9,6 @@ ghost use Rattle.gt_types.specs.Reply.{is_printable};
 
 use crate::decision::Decision;
 use crate::state::State;
-use crate::task::find;
 use gt_setup::Setup;
 use gt_types::{Command, Event, Happening, Reply, ReplyCode, TransferSpec, Who};
 use gt_values::{Id, Moment};
@@ -107,13 +106,13 @@ impl State {
         ensures { IfOk result (λ d. d
             ≡ answers.submit_answer self.now.machine owner.now submission.now spec.now now) }
     {
-        if let Some(task) = find(self.tasks.as_slice(), owner, submission) {
+        if let Some(task) = self.tasks.find(owner, submission) {
             return Ok(Decision::Say(submitted(false, submission, task)));
         }
         if self.is_full(spec.entries.len()) {
             return Ok(refusing(ReplyCode::LimitReached));
         }
-        let task = self.tasks.len() as u64 + 1;
+        let task = self.tasks.rows().len() as u64 + 1;
         let what = Happening::SubmitTransfer {
             owner: *owner,
             submission: *submission,

@@ -1,10 +1,8 @@
-ghost use Rattle.std.specs.Prelude.{◌≡◌, ◌+◌, ◌++◌, ◌∷◌, [], IsTrue, List, Some, length, ℕ};
+ghost use Rattle.std.specs.Prelude.{◌≡◌, ◌++◌, ◌∷◌, [], IsTrue, List, Some, length};
 ghost use Rattle.gt_machine.specs.MachineState.{MachineState, empty_state};
 ghost use Rattle.gt_machine.specs.Run.{IsReached, run_from, run_of};
 ghost use Rattle.gt_machine.specs.Sound.{IsSound};
 ghost use Rattle.gt_machine.specs.Step.{step_of};
-ghost use Rattle.gt_machine.specs.TaskLine.{counters_of};
-ghost use Rattle.gt_machine.specs.declared.item.Item.{Item};
 ghost use Rattle.gt_setup.specs.Setup.{Setup};
 ghost use Rattle.gt_types.specs.Event.{is_recordable};
 ghost use Rattle.gt_types.specs.declared.event.Event.{Event};
@@ -53,11 +51,4 @@ pub fn steps_are_recordable()
     ensures { (setup : Setup) (m next : MachineState) (event : Event)
         → step_of setup m event ≡ Some next
         → IsTrue (is_recordable (length setup.collections) event) }
-{}
-
-/// The seven classes of a task's items sum to the total.
-pub fn classes_sum_to_total()
-    ensures { (task : ℕ) (items : List Item) → let all = counters_of task items in
-        all.pending + all.retrying + all.succeeded + all.expired + all.canceled
-        + all.failed + all.skipped_errors ≡ all.total }
 {}

@@ -6,26 +6,20 @@
 
 mod change;
 mod commit;
-mod counters;
 mod decide;
 mod decision;
 mod forms;
-mod growth;
-mod item;
 mod laws;
 mod line;
 mod plan;
 mod state;
 mod take;
-mod task;
 
 pub use change::{Change, PlanFault, Prepared};
 pub use decision::Decision;
-pub use item::{Class, Item, ItemState};
 pub use laws::{
-    classes_sum_to_total, empty_states_are_reached, runs_are_sound, runs_go_on, runs_have_fronts,
-    steps_are_recordable, steps_stay_reached,
+    empty_states_are_reached, runs_are_sound, runs_go_on, runs_have_fronts, steps_are_recordable,
+    steps_stay_reached,
 };
 pub use line::TaskLine;
 pub use state::State;
-pub use task::TaskRow;

@@ -1,9 +1,8 @@
 ghost use Rattle.std.specs.Prelude.{◌≡◌};
 ghost use Rattle.gt_machine.specs.TaskLine.{line_among};
 
-use crate::counters::counters_of;
-use crate::item::Item;
-use crate::task::TaskRow;
+use gt_subtasks::Items;
+use gt_tasks::TaskRow;
 use gt_types::{Counters, Spec, Status};
 
 /// What the table of tasks shows of a task: its number, its type, its status, and the counters of its items.
@@ -17,14 +16,14 @@ pub struct TaskLine {
     pub counters: Counters,
 }
 
-/// The line of a task among these items.
-pub(crate) fn line_of(task: &TaskRow, items: &[Item]) -> TaskLine
-    ensures { result ≡ line_among items.now task.now }
+/// The line of a task among these items. Its counters are read, not counted.
+pub(crate) fn line_of(task: &TaskRow, items: &Items) -> TaskLine
+    ensures { result ≡ line_among items.now.rows task.now }
 {
     TaskLine {
         number: task.number,
         is_delete: matches!(task.spec, Spec::Delete(_)),
         status: task.status(),
-        counters: counters_of(task.number, items),
+        counters: items.counters(task.number),
     }
 }

@@ -8,9 +8,7 @@ ghost use Rattle.gt_setup.specs.Setup.{Setup as SetupValue};
 
 use crate::change::{Change, PlanFault, Prepared};
 use crate::forms::is_recordable;
-use crate::growth::first_items;
 use crate::state::State;
-use crate::task::find;
 use gt_setup::Setup;
 use gt_types::{AccessSpec, Event, Happening};
 use gt_values::Moment;
@@ -99,8 +97,7 @@ impl State {
                 submission,
                 spec,
             } => {
-                find(self.tasks.as_slice(), owner, submission).is_none()
-                    && !self.is_full(spec.entries.len())
+                self.tasks.find(owner, submission).is_none() && !self.is_full(spec.entries.len())
             }
             Happening::AccessAdd { collection, spec } => {
                 self.has_room() && !self.access.same(*collection, spec)
@@ -150,9 +147,8 @@ impl State {
             | Happening::Sweep { .. }
             | Happening::Restart => unreachable!(),
             Happening::SubmitTransfer { spec, .. } => {
-                let task = self.tasks.len() as u64 + 1;
-                let first = self.items.len() as u64 + 1;
-                let items = first_items(alloc, task, first, spec.entries.as_slice())?;
+                let task = self.tasks.rows().len() as u64 + 1;
+                let items = self.items.first_of_transfer(alloc, task, spec)?;
                 self.tasks.reserve(1)?;
                 self.items.reserve(items.len() as u64)?;
                 Ok(Prepared::Task {

@@ -3,11 +3,11 @@ ghost use Rattle.gt_machine.specs.MachineState.{empty_state};
 ghost use Rattle.gt_machine.specs.TaskLine.{task_lines};
 ghost use Rattle.gt_machine.specs.TaskSteps.{can_issue, is_full};
 
-use crate::item::Item;
 use crate::line::{TaskLine, line_of};
-use crate::task::TaskRow;
 use gt_access::Rules;
-use gt_values::{Moment, Table};
+use gt_subtasks::Items;
+use gt_tasks::Tasks;
+use gt_values::Moment;
 use std::alloc::{AllocError, Global};
 use std::marker::Model;
 
@@ -27,8 +27,8 @@ const MAX_ITEMS: usize = 400_000;
 pub struct State {
     pub(crate) namespace: u32,
     pub(crate) access: Rules,
-    pub(crate) tasks: Table<TaskRow>,
-    pub(crate) items: Table<Item>,
+    pub(crate) tasks: Tasks,
+    pub(crate) items: Items,
     pub(crate) issued: u64,
     pub(crate) greatest: Moment,
     pub(crate) events: u64,
@@ -61,8 +61,8 @@ impl State {
         State {
             namespace,
             access: Rules::new(alloc),
-            tasks: Table::new(alloc),
-            items: Table::new(alloc),
+            tasks: Tasks::new(alloc),
+            items: Items::new(alloc),
             issued: 0,
             greatest: Moment::zero(),
             events: 0,
@@ -90,13 +90,27 @@ impl State {
         &self.access
     }
 
+    /// The tasks.
+    pub fn tasks(&self) -> &Tasks
+        ensures { result.now.rows ≡ self.now.machine.tasks }
+    {
+        &self.tasks
+    }
+
+    /// The items of all tasks.
+    pub fn items(&self) -> &Items
+        ensures { result.now.rows ≡ self.now.machine.items }
+    {
+        &self.items
+    }
+
     /// What the table of tasks shows, a line a task, in order of making.
     pub fn task_lines(&self, alloc: Global) -> Result<Vec<TaskLine>, AllocError>
         ensures { IfOk result (λ lines. lines.items ≡ task_lines self.now.machine) }
     {
-        let items = self.items.as_slice();
+        let items = &self.items;
         self.tasks
-            .as_slice()
+            .rows()
             .iter()
             .map(|task| line_of(task, items))
             .collect(alloc)
@@ -113,7 +127,7 @@ impl State {
     pub(crate) fn is_full(&self, more: usize) -> bool
         ensures { result ≡ is_full self.now.machine more }
     {
-        let items = self.items.len();
-        MAX_TASKS <= self.tasks.len() || MAX_ITEMS < items || MAX_ITEMS - items < more
+        let items = self.items.rows().len();
+        MAX_TASKS <= self.tasks.rows().len() || MAX_ITEMS < items || MAX_ITEMS - items < more
     }
 }

@@ -9,13 +9,14 @@ ghost use Rattle.gt_subtasks.specs.Item.{is_of_task};
 ghost use Rattle.gt_subtasks.specs.Kept.{IsWithin};
 ghost use Rattle.gt_subtasks.specs.Setting.{set_item};
 ghost use Rattle.gt_subtasks.specs.Tally.{tally_of};
+ghost use Rattle.gt_types.specs.declared.spec.Spec.TheVariants.{Delete as OfDelete, Transfer as OfTransfer};
 
 use crate::growth::{Growth, erase_items, transfer_items};
 use crate::item::{Item, ItemState};
 use crate::key::OfTask;
 use crate::tally::Tally;
 use gt_index::Index;
-use gt_types::{Counters, Spec};
+use gt_types::{Counters, DeleteSpec, Spec, TransferSpec};
 use gt_values::Table;
 use std::alloc::{AllocError, Global};
 use std::collections::HashMap;
@@ -128,13 +129,38 @@ impl Items {
         ensures { IfOk result (λ growth. growth
             ≡ first_items task (length self.now.rows + 1) spec.now) }
     {
-        let first = self.rows.len() as u64 + 1;
         match spec {
-            Spec::Transfer(spec) => transfer_items(alloc, task, first, spec.entries.as_slice()),
-            Spec::Delete(spec) => {
-                erase_items(alloc, task, first, spec.recursive, spec.entries.as_slice())
-            }
+            Spec::Transfer(spec) => self.first_of_transfer(alloc, task, spec),
+            Spec::Delete(spec) => self.first_of_deletion(alloc, task, spec),
         }
+    }
+
+    /// The same for a transfer.
+    pub fn first_of_transfer(
+        &self,
+        alloc: Global,
+        task: u64,
+        spec: &TransferSpec,
+    ) -> Result<Growth, AllocError>
+        ensures { IfOk result (λ growth. growth
+            ≡ first_items task (length self.now.rows + 1) (OfTransfer spec.now)) }
+    {
+        let first = self.rows.len() as u64 + 1;
+        transfer_items(alloc, task, first, spec.entries.as_slice())
+    }
+
+    /// The same for a deletion.
+    pub fn first_of_deletion(
+        &self,
+        alloc: Global,
+        task: u64,
+        spec: &DeleteSpec,
+    ) -> Result<Growth, AllocError>
+        ensures { IfOk result (λ growth. growth
+            ≡ first_items task (length self.now.rows + 1) (OfDelete spec.now)) }
+    {
+        let first = self.rows.len() as u64 + 1;
+        erase_items(alloc, task, first, spec.recursive, spec.entries.as_slice())
     }
 
     /// Adds the items at the end, in order, under the next numbers, whatever their fields hold. Takes no memory.

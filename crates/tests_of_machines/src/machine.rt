@@ -148,9 +148,9 @@ struct Counts {
     greatest: u64,
     rows_of_rules: usize,
     tasks: usize,
-    last_task: u64,
-    its_items: u64,
-    those_pending: u64,
+    items: usize,
+    lines: usize,
+    items_of_last: u64,
 }
 
 fn counts_after(alloc: Global, steps: &[Step]) -> Result<Counts, Fail> {
@@ -162,10 +162,10 @@ fn counts_after(alloc: Global, steps: &[Step]) -> Result<Counts, Fail> {
         events: state.events(),
         greatest: state.greatest().seconds(),
         rows_of_rules: state.rules().rows().len(),
-        tasks: lines.len(),
-        last_task: last.number,
-        its_items: last.counters.total,
-        those_pending: last.counters.pending,
+        tasks: state.tasks().rows().len(),
+        items: state.items().rows().len(),
+        lines: lines.len(),
+        items_of_last: last.counters.total,
     })
 }
 
@@ -178,9 +178,9 @@ fn events_make_their_steps(rt: HostRuntime) -> Result<(), Fail> {
         greatest: 120,
         rows_of_rules: 2,
         tasks: 3,
-        last_task: 3,
-        its_items: 10_000,
-        those_pending: 10_000,
+        items: 10_003,
+        lines: 3,
+        items_of_last: 10_000,
     };
     assert_eq!(rt; counts, want);
     Ok(())

@@ -1,5 +1,0 @@
-use Rattle.gt_machine.proofs.Classes.{sum_of_classes}
-use Rattle.gt_machine.proofs.laws.classes_sum_to_total.Goals as goal
-
-pub returns : goal.returns
-returns c task items = sum_of_classes task items
