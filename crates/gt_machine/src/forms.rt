@@ -2,7 +2,9 @@ ghost use Rattle.std.specs.Prelude.{◌≡◌};
 ghost use Rattle.gt_types.specs.Event as events;
 ghost use Rattle.gt_values.specs.Forms as values;
 
-use gt_types::{Event, Happening, is_access_spec, is_transfer_spec};
+use gt_types::{
+    Event, Happening, is_access_spec, is_recordable_outcome, is_transfer_spec, is_worker,
+};
 use gt_values::Moment;
 
 /// Whether the event is within the forms and limits of a record, where the collections are so many.
@@ -46,16 +48,20 @@ fn is_happening(what: &Happening) -> bool
         } => owner.is_id() && submission.is_id() && is_transfer_spec(spec),
         Happening::AccessAdd { spec, .. } => is_access_spec(spec),
         Happening::AccessReplace { rule, .. } | Happening::AccessEnd { rule } => *rule <= u64::MAX,
+        Happening::GrantItem { worker, item } => is_worker(*worker) && *item <= u64::MAX,
+        Happening::RefuseItem { item, .. } => *item <= u64::MAX,
+        Happening::ReportItem {
+            item,
+            grant,
+            outcome,
+        } => *item <= u64::MAX && *grant <= u64::MAX && is_recordable_outcome(outcome),
+        Happening::Restart => true,
         Happening::SubmitDelete { .. }
         | Happening::PauseAdd { .. }
         | Happening::PauseEnd { .. }
         | Happening::Cancel { .. }
         | Happening::Update { .. }
-        | Happening::GrantItem { .. }
-        | Happening::RefuseItem { .. }
-        | Happening::ReportItem { .. }
-        | Happening::Sweep { .. }
-        | Happening::Restart => false,
+        | Happening::Sweep { .. } => false,
     }
 }
 
