@@ -2,7 +2,7 @@
 use Rattle.gt_forest.specs.Listing.{IsAfter, IsInOrder, names_of}
 use Rattle.gt_forest.specs.Rows.{start_of}
 use Rattle.gt_types.specs.declared.listing.Entry.{Entry}
-use Rattle.std.proofs.Common.{All, Bool, Equal, Greater, Less, List, None, Option, Ordering, Some, [], ap, append_assoc, arith, cond, false, filter, inl, inr, is_lt, length, length-append, map, nat_cmp, refl, subst, sym, true, true≢false, ◌&&◌, ◌++◌, ◌∙◌, ◌∷◌, ◌≡◌, ◌≤◌, ◌<◌, ◌⊎◌, ℕ}
+use Rattle.std.proofs.Common.{Bool, Equal, Greater, Less, List, None, Option, Ordering, Some, [], ap, append_assoc, arith, cond, false, filter, inl, inr, is_lt, length, length-append, nat_cmp, refl, subst, sym, true, true≢false, ◌&&◌, ◌++◌, ◌∷◌, ◌≡◌, ◌≤◌, ◌<◌, ◌⊎◌, ℕ}
 use Rattle.std.proofs.lemmas.List.Elements.{All-from_recursion}
 use Rattle.std.proofs.lemmas.List.Kept.{IsStrictlySortedBy-filter}
 use Rattle.std.proofs.lemmas.List.{length-map, map-append}

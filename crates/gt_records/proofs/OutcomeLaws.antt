@@ -1,11 +1,11 @@
 -- Outcomes are read as they are written.
-use Rattle.std.proofs.Common.{◌≡◌, ℕ, ◌^◌, Bool, true, false, ◌&&◌, eqb, ltb, List, [], ◌∷◌, ◌++◌, Some, None, refl, sym, ap, ◌∙◌, append_assoc, true≢false, inl, inr}
+use Rattle.std.proofs.Common.{◌≡◌, ℕ, Bool, true, false, ◌&&◌, eqb, List, [], ◌∷◌, ◌++◌, Some, refl, sym, ap, ◌∙◌, append_assoc, true≢false, inl, inr}
 use Rattle.std.proofs.Math.Bool.{and_assoc}
 use Rattle.std.proofs.lemmas.Bool.{eqb-true}
 use Rattle.gt_records.specs.Fields.{byte_text, digest_text, number_text, option_text}
 use Rattle.gt_records.specs.OutcomeText.{code_number, codes, evidence_text, outcome_fields, outcome_number, outcome_text, side_number, sides}
-use Rattle.gt_records.specs.Reading.{mapped, number_at, numbered, of_form, ◌⊗◌}
-use Rattle.gt_records.specs.ReadingFields.{digest_at, option_at}
+use Rattle.gt_records.specs.Reading.{number_at, numbered, of_form, ◌⊗◌}
+use Rattle.gt_records.specs.ReadingFields.{digest_at}
 use Rattle.gt_records.specs.ReadingOutcomes.{code_at, evidence_at, mismatch_at, outcome_at, outcome_forms, side_at}
 use Rattle.gt_records.proofs.FieldLaws.{digest_reads, option_reads, u64_reads}
 use Rattle.gt_records.proofs.FormLaws.{FormTakes, FormsTake, forms_take, made_form}

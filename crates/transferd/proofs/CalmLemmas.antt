@@ -15,8 +15,8 @@ use Rattle.gt_types.specs.declared.command.Command.{Command}
 use Rattle.gt_types.specs.declared.event.Event.{Event}
 use Rattle.gt_types.specs.declared.reply.Reply.{Reply}
 use Rattle.gt_world.specs.RunFacts.{run_later}
-use Rattle.gt_world.specs.World.{Ask, Asks, NoMemory, NotOpened, Quiet, Reopen, Reopened, Reopens, Replied, SetMoment, StepAnswer, Taken, Unavailable, World, WorldRun, WorldStep, world_after}
-use Rattle.std.proofs.Common.{Bool, IsTrue, List, None, Ok, Option, Some, [], ap, append-nil, append_assoc, arith, length, refl, subst, sym, ⊎_elim, ◌++◌, ◌∙◌, ◌∷◌, ◌≡◌, ◌≤◌, ℕ}
+use Rattle.gt_world.specs.World.{Ask, Asks, NoMemory, Reopen, Reopens, Replied, SetMoment, StepAnswer, Taken, Unavailable, World, WorldRun, WorldStep, world_after}
+use Rattle.std.proofs.Common.{Bool, IsTrue, List, Ok, Option, Some, [], ap, append-nil, append_assoc, arith, length, refl, subst, sym, ⊎_elim, ◌++◌, ◌∙◌, ◌∷◌, ◌≡◌, ◌≤◌, ℕ}
 use Rattle.std.proofs.Math.Nat.{le_refl, le_trans}
 use Rattle.std.specs.Option.{option_map_or}
 use Rattle.std.specs.Prelude.{IsSome}

@@ -9,7 +9,7 @@ use Rattle.gt_setup.specs.Grammar.{setup_of}
 use Rattle.gt_setup.specs.Setup.{Setup}
 use Rattle.gt_types.specs.declared.event.Event.{Event}
 use Rattle.gt_world.specs.World.{Taken, World, world_after, world_on}
-use Rattle.std.proofs.Common.{Bool, IsTrue, List, Ok, Some, [], ap, append-nil, append_assoc, refl, subst, sym, ⊎_elim, ◌++◌, ◌∙◌, ◌≡◌, ◌≤◌, ℕ}
+use Rattle.std.proofs.Common.{Bool, IsTrue, List, Ok, Some, [], ap, append-nil, append_assoc, subst, sym, ⊎_elim, ◌++◌, ◌∙◌, ◌≡◌, ◌≤◌, ℕ}
 use Rattle.std.proofs.Math.Nat.{le_refl}
 use Rattle.transferd.proofs.CalmLemmas.{GoesOn, NotRose, rose_within, state_is}
 use Rattle.transferd.specs.Calm.{IsCalm, IsCalmRun, IsSettled, calm, state_of}

@@ -1,6 +1,6 @@
 -- What a script finds on the disk of an earlier one.
 use Rattle.gt_desk.specs.DeskCall.{IsKept}
-use Rattle.gt_desk.specs.History.{Ledger, Stands, StandsFor, StandsWith}
+use Rattle.gt_desk.specs.History.{Ledger, StandsFor, StandsWith}
 use Rattle.gt_desk.specs.Opening.{Finds}
 use Rattle.gt_disk.specs.Disk.{DiskWords}
 use Rattle.gt_setup.specs.Setup.{Setup}

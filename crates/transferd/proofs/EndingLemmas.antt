@@ -14,7 +14,7 @@ use Rattle.gt_script.specs.declared.line.ScriptFault.{ScriptFault}
 use Rattle.gt_script.specs.declared.line.ScriptFault.TheVariants.{OutOfMemory as ReadOutOfMemory, Refused as ReadRefused, SourceFault as ReadSourceFault}
 use Rattle.gt_setup.specs.Setup.{Setup}
 use Rattle.gt_types.specs.declared.event.Event.{Event}
-use Rattle.std.proofs.Common.{Bool, IsTrue, List, None, Option, Some, [], ap, append-nil, append_assoc, arith, inl, inr, length, length-append, refl, subst, sym, ◌++◌, ◌+◌, ◌∙◌, ◌∷◌, ◌≡◌, ◌≢◌, ◌≤◌, ℕ}
+use Rattle.std.proofs.Common.{Bool, IsTrue, List, Some, [], ap, append-nil, append_assoc, arith, inl, inr, length, length-append, refl, subst, sym, ◌++◌, ◌+◌, ◌∙◌, ◌∷◌, ◌≡◌, ◌≢◌, ◌≤◌, ℕ}
 use Rattle.gt_world.specs.CrashFacts.{crashes_append}
 use Rattle.transferd.proofs.RunLemmas.{lines_of_more, out_text_more, script_run_more, steps_of_more, unended_more, world_at_more, world_at_steps}
 use Rattle.gt_world.specs.Crashes.{CrashesKeep}
@@ -26,7 +26,7 @@ use Rattle.transferd.specs.Progress.{IsPresent, MadeLine, Progress, StoppedLine}
 use Rattle.transferd.specs.Run.{IsUnended, Played, ScriptRun, lines_of, steps_of, world_at}
 use Rattle.gt_world.specs.World.{Taken, World, world_on}
 use Rattle.transferd.specs.declared.exit.Exit.{Exit}
-use Rattle.transferd.specs.declared.exit.Exit.TheVariants.{Damaged, Done, JournalFault, OutOfMemory, ScriptRefused, SinkFault, SourceFault}
+use Rattle.transferd.specs.declared.exit.Exit.TheVariants.{Damaged, Done, JournalFault, OutOfMemory, SinkFault}
 use Rattle.transferd.specs.declared.session.Session.{Session}
 
 -- a run that stopped in a line ends so, as its exit says

@@ -1,8 +1,5 @@
 -- Computed examples of what lines print and add where nothing fails, and of the tables of steps, outputs and exits.
-use Rattle.gt_desk.specs.History.{Ledger}
 use Rattle.gt_machine.specs.MachineState.{empty_state}
-use Rattle.gt_machine.specs.declared.line.TaskLine.{TaskLine}
-use Rattle.gt_script.specs.declared.line.Line.{Line}
 use Rattle.gt_script.specs.declared.line.Line.TheVariants.{End, Now, Restart, Send}
 use Rattle.gt_setup.specs.Setup.{Setup}
 use Rattle.gt_setup.specs.declared.parts.Collection.{Collection}
@@ -10,7 +7,6 @@ use Rattle.gt_types.specs.declared.code.Status.TheVariants.{Succeeded}
 use Rattle.gt_types.specs.declared.command.Command.TheVariants.{IssueId, SubmitTransfer as AskTransfer}
 use Rattle.gt_types.specs.declared.event.Event.{Event}
 use Rattle.gt_types.specs.declared.event.Happening.TheVariants.{Issue, SubmitTransfer}
-use Rattle.gt_types.specs.declared.reply.Counters.{Counters}
 use Rattle.gt_types.specs.declared.reply.Reply.TheVariants.{Identifier, Submitted}
 use Rattle.gt_types.specs.declared.spec.TransferSpec.{TransferSpec}
 use Rattle.gt_world.specs.World.{NoMemory, Quiet, SetMoment, Taken, World, world_on}
@@ -19,9 +15,9 @@ use Rattle.std.specs.Fmt.{digits}
 use Rattle.std.specs.Prelude.{codes, false, true}
 use Rattle.std.specs.Str.{chars, is_utf8}
 use lib.Utf8.{encode}
-use Rattle.transferd.specs.Calm.{calm, calm_script}
+use Rattle.transferd.specs.Calm.{calm_script}
 use Rattle.transferd.specs.Exits.{status_of}
-use Rattle.transferd.specs.Output.{answer_text, line_output, reply_line, restart_text, task_text}
+use Rattle.transferd.specs.Output.{answer_text, reply_line, restart_text, task_text}
 use Rattle.transferd.specs.Run.{Makes}
 use Rattle.transferd.specs.declared.exit.Exit.TheVariants.{Damaged, Done, JournalFault, OutOfMemory, ScriptRefused, SinkFault, SourceFault, Usage}
 

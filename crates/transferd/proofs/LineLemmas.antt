@@ -1,17 +1,17 @@
 -- What the lines make and print.
 use Rattle.gt_causes.specs.Causes.{Rose}
 use Rattle.gt_causes.specs.Outcomes.{NoMore}
-use Rattle.gt_desk.specs.Desk.{Desk, IsCall, Stays, StaysDuring}
-use Rattle.gt_desk.specs.DeskCall.{DeskCall, of_history}
+use Rattle.gt_desk.specs.Desk.{IsCall, Stays, StaysDuring}
+use Rattle.gt_desk.specs.DeskCall.{of_history}
 use Rattle.gt_desk.specs.History.{Ledger, Stands, StandsDuring, StandsWith}
-use Rattle.gt_desk.specs.Opening.{FailsToOpen, FailsToReopen, Finds, IsNotReopened, IsReopened, Opens, opening_events}
+use Rattle.gt_desk.specs.Opening.{FailsToReopen, Finds, IsNotReopened, IsReopened, opening_events}
 use Rattle.gt_desk.specs.declared.fault.DeskFault.{DeskFault}
 use Rattle.gt_desk.specs.declared.fault.DeskFault.TheVariants.{JournalFault as DeskJournalFault, OutOfMemory as DeskOutOfMemory}
 use Rattle.gt_desk.specs.declared.fault.OpenFault.{OpenFault}
 use Rattle.gt_desk.specs.declared.fault.OpenFault.TheVariants.{Damaged as OpenDamaged, JournalFault as OpenJournalFault, OutOfMemory as OpenOutOfMemory}
 use Rattle.gt_desk.specs.declared.fault.OpenRefused.{OpenRefused}
 use Rattle.gt_disk.specs.Disk.{DiskLaws, DiskWords, IsSameDisk, LeavesOnly}
-use Rattle.gt_disk.specs.Moments.{started, weaker}
+use Rattle.gt_disk.specs.Moments.{started}
 use Rattle.gt_machine.specs.Answer.{answer_of}
 use Rattle.gt_machine.specs.MachineState.{MachineState, empty_state}
 use Rattle.gt_machine.specs.Run.{run_from, run_of}
@@ -24,7 +24,7 @@ use Rattle.gt_types.specs.declared.event.Event.{Event}
 use Rattle.gt_types.specs.declared.reply.Reply.{Reply}
 use Rattle.gt_types.specs.declared.reply.Reply.TheVariants.{Refused}
 use Rattle.gt_types.specs.declared.reply.ReplyCode.TheVariants.{JournalFault as ReplyJournalFault}
-use Rattle.std.proofs.Common.{Bool, Err, IsTrue, List, None, Ok, Option, Result, Some, [], ap, append-nil, inl, inr, length, refl, subst, sym, ⊎_elim, ◌⊎◌, ◌++◌, ◌∙◌, ◌∷◌, ◌≡◌, ◌≤◌, ℕ}
+use Rattle.std.proofs.Common.{Bool, Err, IsTrue, List, Ok, Result, Some, [], ap, append-nil, inl, inr, length, refl, subst, sym, ⊎_elim, ◌⊎◌, ◌++◌, ◌∙◌, ◌∷◌, ◌≡◌, ℕ}
 use Rattle.gt_world.specs.CrashFacts.{crashes_step}
 use Rattle.gt_world.specs.Crashes.{CrashesKeep}
 use Rattle.transferd.specs.Endings.{Stream, StopsLine, WroteNothing}
@@ -33,7 +33,7 @@ use Rattle.transferd.specs.Output.{IsPart, line_output, reply_line, restart_text
 use Rattle.transferd.specs.Progress.{IsPresent, MadeLine, StoppedLine, world_of}
 use Rattle.transferd.specs.Requests.{IsReplyTo}
 use Rattle.transferd.specs.Run.{Makes, ReopenFails}
-use Rattle.gt_world.specs.World.{Ask, Asks, IsDeskStep, NoMemory, NotOpened, Quiet, Reopen, Reopened, Reopens, Replied, SetMoment, StaysClosed, Step, StepAnswer, Taken, Unavailable, World, WorldRun, WorldStep, world_after}
+use Rattle.gt_world.specs.World.{Ask, Asks, IsDeskStep, NoMemory, NotOpened, Quiet, Reopen, Reopened, Replied, SetMoment, Step, StepAnswer, Taken, Unavailable, World, WorldStep}
 use Rattle.transferd.specs.declared.exit.Exit.{Exit}
 use Rattle.transferd.specs.declared.exit.Exit.TheVariants.{OutOfMemory, SinkFault}
 use Rattle.transferd.specs.declared.session.Session.{Session}

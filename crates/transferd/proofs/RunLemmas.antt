@@ -3,7 +3,7 @@ use Rattle.gt_script.specs.declared.line.Line.{Line}
 use Rattle.gt_script.specs.declared.line.Line.TheVariants.{End}
 use Rattle.gt_setup.specs.Setup.{Setup}
 use Rattle.gt_world.specs.RunFacts.{run_append, world_after_append}
-use Rattle.std.proofs.Common.{Bool, List, [], ap, append-nil, append_assoc, length, refl, subst, suc, sym, ◌++◌, ◌∙◌, ◌∷◌, ◌≡◌, ◌≢◌, ℕ}
+use Rattle.std.proofs.Common.{Bool, List, [], ap, append-nil, append_assoc, refl, subst, sym, ◌++◌, ◌∙◌, ◌∷◌, ◌≡◌, ◌≢◌, ℕ}
 use Rattle.transferd.specs.Output.{line_output, out_text}
 use Rattle.transferd.specs.Run.{IsUnended, Makes, Played, ScriptRun, lines_of, steps_of, world_at}
 use Rattle.gt_world.specs.World.{Taken, World, WorldRun, world_after}

@@ -1,6 +1,6 @@
 -- What comes of an opening and of the run behind it.
 use Rattle.gt_desk.specs.Desk.{Desk}
-use Rattle.gt_desk.specs.History.{Ledger, StandsDuring, StandsWith}
+use Rattle.gt_desk.specs.History.{Ledger, StandsDuring}
 use Rattle.gt_desk.specs.Opening.{IsNotOpened, IsOpened, opening_events}
 use Rattle.gt_desk.specs.declared.fault.OpenFault.{OpenFault}
 use Rattle.gt_desk.specs.declared.fault.OpenFault.TheVariants.{Damaged, JournalFault, OutOfMemory}
@@ -10,7 +10,7 @@ use Rattle.gt_journal.specs.Opening.{OnceSynced}
 use Rattle.gt_machine.specs.Run.{run_from, run_of}
 use Rattle.gt_setup.specs.Setup.{Setup}
 use Rattle.gt_types.specs.declared.event.Event.{Event}
-use Rattle.std.proofs.Common.{Bool, IsTrue, List, Some, refl, subst, sym, true, ◌++◌, ◌≡◌}
+use Rattle.std.proofs.Common.{Bool, List, Some, refl, subst, sym, true, ◌++◌, ◌≡◌}
 use Rattle.gt_machine.specs.MachineState.{MachineState, empty_state}
 use Rattle.gt_world.specs.Crashes.{CrashesKeep, KeepsAcknowledged}
 use Rattle.transferd.specs.Endings.{Stream}

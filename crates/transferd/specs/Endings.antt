@@ -2,7 +2,7 @@
 use Rattle.gt_desk.specs.declared.fault.OpenFault.TheVariants.{Damaged as OpenDamaged, JournalFault as OpenJournalFault, OutOfMemory as OpenOutOfMemory}
 use Rattle.gt_script.specs.Script.{EndsBehind, EndsWithNext, Reads}
 use Rattle.gt_script.specs.declared.line.Line.{Line}
-use Rattle.gt_script.specs.declared.line.Line.TheVariants.{End, Now, Restart, Send}
+use Rattle.gt_script.specs.declared.line.Line.TheVariants.{Restart, Send}
 use Rattle.gt_setup.specs.Setup.{Setup}
 use Rattle.gt_streams.specs.Streams.{SinkWords, SourceWords}
 use Rattle.std.specs.Prelude.{Bool, IsTrue, List, [], length, ◌++◌, ◌+◌, ◌∷◌, ◌≡◌, ◌⊎◌, ℕ}

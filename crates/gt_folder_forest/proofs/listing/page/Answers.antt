@@ -1,6 +1,6 @@
 use Rattle.gt_folder_forest.proofs.PageLemmas.{few_step, page_of, row_start, row_step}
 use Rattle.gt_folder_forest.proofs.listing.page.Goals as goal
-use Rattle.std.proofs.Common.{ap, arith, length, option_copied, ◌<◌, ◌∙◌, ◌≡◌}
+use Rattle.std.proofs.Common.{ap, arith, length, option_copied, ◌<◌, ◌∙◌}
 use Rattle.std.proofs.lemmas.Map.Iter.{rest_more}
 use Rattle.std.specs.Map.Iter.{deref_pair}
 use Rattle.std.specs.Map.{keys_of}

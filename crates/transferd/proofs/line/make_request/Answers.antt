@@ -1,6 +1,6 @@
 use Rattle.gt_desk.specs.declared.fault.DeskFault.TheVariants.{OutOfMemory}
 use Rattle.gt_script.specs.declared.line.Line.TheVariants.{Send}
-use Rattle.std.proofs.Common.{Err, refl, rules, subst, sym, ◌≡◌}
+use Rattle.std.proofs.Common.{Err, refl, rules, subst, ◌≡◌}
 use Rattle.transferd.proofs.LineLemmas.{not_printed, request_made, request_stopped}
 use Rattle.transferd.proofs.line.make_request.Goals as goal
 use Rattle.transferd.specs.Output.{reply_line}

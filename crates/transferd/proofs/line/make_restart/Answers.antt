@@ -1,7 +1,5 @@
 use Rattle.gt_script.specs.declared.line.Line.TheVariants.{Restart}
-use Rattle.std.proofs.Common.{refl, rules, subst, sym, ◌≡◌}
-use Rattle.gt_desk.specs.Desk.{Stays}
-use Rattle.gt_disk.specs.Disk.{IsSameDisk}
+use Rattle.std.proofs.Common.{refl, rules, subst, ◌≡◌}
 use Rattle.transferd.proofs.LineLemmas.{not_printed, restart_made, restart_stopped}
 use Rattle.transferd.proofs.line.make_restart.Goals as goal
 use Rattle.transferd.specs.Output.{restart_text}

@@ -1,4 +1,4 @@
-use Rattle.std.proofs.Common.{IsTrue, refl, rules, subst, ◌++◌, ◌≡◌}
+use Rattle.std.proofs.Common.{rules, subst, ◌++◌, ◌≡◌}
 use Rattle.transferd.proofs.LineLemmas.{half_printed}
 use Rattle.transferd.proofs.line.run_line.Goals as goal
 use Rattle.transferd.specs.Endings.{Stream, written_to}

@@ -1,19 +1,16 @@
-use Rattle.gt_disk.specs.Disk.{IsSameDisk}
 use Rattle.gt_script.specs.Reading.{BeginsNoLine, BeginsWith, Refuses, Stops}
 use Rattle.gt_script.specs.Script.{most_script_bytes}
 use Rattle.gt_script.specs.TextFacts.{full_script}
 use Rattle.gt_script.specs.declared.line.Line.TheVariants.{End}
 use Rattle.gt_script.specs.declared.line.ScriptFault.TheVariants.{Refused}
 use Rattle.gt_setup.specs.Setup.{Setup}
-use Rattle.gt_streams.specs.Streams.{IsSameSink, IsSameSource}
-use Rattle.std.proofs.Common.{Bool, Err, IsTrue, List, [], ap, arith, refl, subst, ◌++◌, ◌+◌, ◌∙◌, ◌≡◌, ◌≢◌, ◌≤◌, ℕ}
+use Rattle.std.proofs.Common.{IsTrue, List, [], arith, refl, subst, ◌++◌, ◌+◌, ◌∙◌, ◌≡◌, ◌≢◌, ◌≤◌, ℕ}
 use Rattle.transferd.proofs.EndingLemmas.{begun, carried, done, more, not_read, refuses, stopped}
 use Rattle.transferd.proofs.script.run_script.Goals as goal
 use Rattle.transferd.specs.Endings.{Stream, read_from, written_to}
 use Rattle.transferd.specs.Progress.{IsPresent, MadeLine, StoppedLine}
 use Rattle.transferd.specs.Run.{world_at}
 use Rattle.gt_world.specs.World.{World, world_on}
-use Rattle.transferd.specs.declared.exit.Exit.TheVariants.{ScriptRefused}
 
 pub loop-taken-init : goal.loop-taken-init
 loop-taken-init g c = record {
