@@ -8,18 +8,22 @@ impl<F: Folders + Drop> Trees<F> {
     pub(crate) fn make_dir(&mut self, home: &mut Home, path: &Path) -> Result<(), Trouble> {
         self.let_go();
         let Some(place) = place_of(path)? else {
-            return self.refuse_home(home);
+            return Err(self.refusal_at_home(home));
         };
         let folder = self.open_folder(home, place.above)?;
         let made = self.make_in(folder, place.name);
         self.end_change(home, folder, made)
     }
 
-    // The collection's own folder is there, and no call makes or replaces it.
-    pub(crate) fn refuse_home(&mut self, home: &mut Home) -> Result<(), Trouble> {
-        let folder = self.open_folder(home, &[])?;
-        self.folders.close(folder);
-        Err(Trouble::WrongKind)
+    /// Why a call that is for files, or that makes something, can't be done at the collection's own folder.
+    pub(crate) fn refusal_at_home(&mut self, home: &mut Home) -> Trouble {
+        match self.open_folder(home, &[]) {
+            Ok(folder) => {
+                self.folders.close(folder);
+                Trouble::WrongKind
+            }
+            Err(trouble) => trouble,
+        }
     }
 
     // Makes a folder in an open one. It is on the disk before its name counts.
@@ -41,7 +45,7 @@ impl<F: Folders + Drop> Trees<F> {
     pub(crate) fn remove_file(&mut self, home: &mut Home, path: &Path) -> Result<(), Trouble> {
         self.let_go();
         let Some(place) = place_of(path)? else {
-            return self.refuse_home(home);
+            return Err(self.refusal_at_home(home));
         };
         self.remove(home, place, SightKind::File)
     }

@@ -7,15 +7,11 @@
 
 mod changing;
 mod forest;
-#[cfg(test)]
-mod forest_tests;
 mod leftovers;
 mod listing;
 mod reading;
 mod spot;
 mod staging;
-#[cfg(test)]
-mod strict;
 mod trail;
 mod trees;
 mod trouble;

@@ -111,10 +111,7 @@ pub(crate) fn names_in<F: Folders>(
     let mut names = BTreeMap::new(alloc);
     let mut room = [0u8; ROOM];
     for _ in 0..u64::MAX {
-        let length = match folders.names(folder, &mut room) {
-            Ok(length) => length,
-            Err(error) => return Err(Trouble::Failed(error)),
-        };
+        let length = folders.names(folder, &mut room)?;
         if length == 0 {
             break;
         }
@@ -235,7 +232,7 @@ fn kind_of(found: io::Result<SightKind>) -> Result<Option<Kind>, Trouble> {
         Ok(SightKind::Folder) => Ok(Some(Kind::Folder)),
         Ok(SightKind::Other) => Ok(None),
         Err(error) if is_code(&error, libc::ENOENT) => Ok(None),
-        Err(error) => Err(Trouble::Failed(error)),
+        Err(error) => Err(Trouble::from(error)),
     }
 }
 

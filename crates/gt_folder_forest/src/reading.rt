@@ -116,7 +116,7 @@ impl<F: Folders + Drop> Trees<F> {
             }
             Err(error) => {
                 self.reader.close(&mut self.folders);
-                Err(Trouble::Failed(error))
+                Err(Trouble::from(error))
             }
         }
     }
@@ -125,7 +125,7 @@ impl<F: Folders + Drop> Trees<F> {
     fn open_reader(&mut self, home: &mut Home, path: &Path) -> Result<usize, Trouble> {
         self.reader.close(&mut self.folders);
         let Some(place) = place_of(path)? else {
-            return Err(Trouble::WrongKind);
+            return Err(self.refusal_at_home(home));
         };
         let number = self.open_file(home, place)?;
         self.reader.open = Some(number);

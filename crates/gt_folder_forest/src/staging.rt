@@ -18,8 +18,15 @@ const OPEN: usize = 17;
 /// last at the end.
 #[derive(Drop)]
 pub(crate) struct Stages {
-    standing: BTreeMap<(u32, u64), Sight>,
+    standing: BTreeMap<(u32, u64), Standing>,
     open: Vec<OpenStage>,
+}
+
+// Which file it is, and whether a sync of it failed. Its bytes may then be lost, though a later sync answers well.
+#[derive(Clone, Copy)]
+struct Standing {
+    sight: Sight,
+    is_lost: bool,
 }
 
 // A staging file that is open at its end, under this number.
@@ -38,9 +45,16 @@ impl Stages {
         })
     }
 
-    // Which file it is, if it stands.
-    fn sight(&self, home: &Home, key: u64) -> Option<Sight> {
+    // What is known of it, if it stands.
+    fn find(&self, home: &Home, key: u64) -> Option<Standing> {
         self.standing.get(&(home.number, key)).copied()
+    }
+
+    // A sync of it failed.
+    fn lose(&mut self, home: &Home, key: u64) {
+        if let Some(stage) = self.standing.get_mut(&(home.number, key)) {
+            stage.is_lost = true;
+        }
     }
 
     // Takes an open one out of those that are.
@@ -94,10 +108,14 @@ impl<F: Folders + Drop> Trees<F> {
         let made = self.make_stage(folder, key);
         self.folders.close(folder);
         let (number, sight) = made?;
+        let new_stage = Standing {
+            sight,
+            is_lost: false,
+        };
         if self
             .stages
             .standing
-            .insert((home.number, key), sight)
+            .insert((home.number, key), new_stage)
             .is_err()
         {
             self.folders.close(number);
@@ -203,20 +221,30 @@ impl<F: Folders + Drop> Trees<F> {
         key: u64,
         bytes: &[u8],
     ) -> Result<(), Trouble> {
-        let number = self.take_stage(home, key)?;
+        let number = self.take_whole(home, key)?;
         let added = self.folders.append(number, bytes);
         self.keep_open(home, key, number);
         added.map_err(Trouble::Failed)
     }
 
+    // One that stands and isn't lost.
+    fn take_whole(&mut self, home: &Home, key: u64) -> Result<usize, Trouble> {
+        match self.stages.find(home, key) {
+            Some(stage) if stage.is_lost => {
+                Err(Trouble::Failed(io::Error::other("its bytes may be lost")))
+            }
+            _ => self.take_stage(home, key),
+        }
+    }
+
     // A staging file that stands, open at its end, and out of the list of those that are open.
     fn take_stage(&mut self, home: &Home, key: u64) -> Result<usize, Trouble> {
-        let Some(own) = self.stages.sight(home, key) else {
+        let Some(stage) = self.stages.find(home, key) else {
             return Err(Trouble::NotFound);
         };
         match self.stages.take(home, key) {
             Some(number) => Ok(number),
-            None => self.reopen(home, key, own),
+            None => self.reopen(home, key, stage.sight),
         }
     }
 
@@ -284,8 +312,8 @@ impl<F: Folders + Drop> Trees<F> {
                 let placed = self.place_in(home, folder, key, place.name, mtime);
                 self.end_change(home, folder, placed)
             }
-            None if self.stages.sight(home, key).is_none() => Err(Trouble::NotFound),
-            None => self.refuse_home(home),
+            None if self.stages.find(home, key).is_none() => Err(Trouble::NotFound),
+            None => Err(self.refusal_at_home(home)),
         }
     }
 
@@ -298,10 +326,10 @@ impl<F: Folders + Drop> Trees<F> {
         name: &Name,
         mtime: Moment,
     ) -> Result<(), Trouble> {
-        let number = self.take_stage(home, key)?;
+        let number = self.take_whole(home, key)?;
         let ready = self.make_ready(folder, name, number, mtime);
         let placed = match ready {
-            Ok(()) => self.rename(home, folder, key, name),
+            Ok(()) => self.sync_and_rename(home, folder, key, name, number),
             Err(trouble) => Err(trouble),
         };
         match placed {
@@ -314,7 +342,7 @@ impl<F: Folders + Drop> Trees<F> {
         placed
     }
 
-    // Sees that no folder has the name, and has the file with its time on the disk.
+    // Sees that no folder has the name, and gives the file its time.
     fn make_ready(
         &mut self,
         folder: usize,
@@ -325,10 +353,26 @@ impl<F: Folders + Drop> Trees<F> {
         if self.has_folder(folder, name)? {
             return Err(Trouble::WrongKind);
         }
-        self.folders
-            .set_time(number, mtime.seconds() as i64)
-            .map_err(Trouble::Failed)?;
-        self.folders.sync(number).map_err(Trouble::Failed)
+        self.folders.set_time(number, mtime.seconds() as i64)?;
+        Ok(())
+    }
+
+    // Gives it its name after it is on the disk.
+    fn sync_and_rename(
+        &mut self,
+        home: &Home,
+        folder: usize,
+        key: u64,
+        name: &Name,
+        number: usize,
+    ) -> Result<(), Trouble> {
+        match self.folders.sync(number) {
+            Ok(()) => self.rename(home, folder, key, name),
+            Err(error) => {
+                self.stages.lose(home, key);
+                Err(Trouble::Failed(error))
+            }
+        }
     }
 
     fn has_folder(&mut self, folder: usize, name: &Name) -> Result<bool, Trouble> {

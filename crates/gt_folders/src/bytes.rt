@@ -96,8 +96,13 @@ pub(crate) fn set_time(fd: i32, seconds: i64) -> io::Result<()> {
         tv_sec: seconds,
         tv_nsec: 0,
     };
-    if libc::futimens(fd, &[read, written]) < 0 {
-        return Err(io::Error::from_raw_os_error(os::errno()));
+    for _ in 0..u64::MAX {
+        if libc::futimens(fd, &[read, written]) == 0 {
+            return Ok(());
+        }
+        if let Some(error) = last_failure() {
+            return Err(error);
+        }
     }
-    Ok(())
+    Err(ErrorKind::Interrupted.into())
 }

@@ -11,8 +11,6 @@ mod name;
 mod sight;
 mod system;
 mod table;
-#[cfg(test)]
-mod tests;
 
 pub use folders::Folders;
 pub use name::EntryName;

@@ -85,7 +85,7 @@ line_feed_last buf b e = let line = empty_ends _ e in (same_from_push buf line.0
 
 -- ---- bytes of empty lines alone
 
-no_line_token : (b : ℕ) → is_token_byte b ≡ true → is_line_byte b ≡ true → ⊥
+pub no_line_token : (b : ℕ) → is_token_byte b ≡ true → is_line_byte b ≡ true → ⊥
 unfolding is_token_byte
 no_line_token b token line = grind (arith, nat_tests)
 

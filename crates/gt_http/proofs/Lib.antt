@@ -1,6 +1,7 @@
 mod BodyLemmas
 mod FieldLemmas
 mod HeadLemmas
+mod LineLemmas
 mod MessageLemmas
 mod PlaceLemmas
 mod ReplyLemmas

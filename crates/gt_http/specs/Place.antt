@@ -2,7 +2,7 @@
 use Rattle.gt_http.specs.declared.place.Place.{Place}
 use Rattle.gt_http.specs.declared.place.Place.TheVariants.{Blank, Fields, StartLine}
 use Rattle.std.specs.List.{ends_with}
-use Rattle.std.specs.Prelude.{Bool, List, [], if◌then◌else◌, nat_eq, not, ℕ, ◌&&◌, ◌==◌, ◌||◌, ◌∷◌}
+use Rattle.std.specs.Prelude.{Bool, List, [], false, if◌then◌else◌, nat_eq, not, ℕ, ◌&&◌, ◌+◌, ◌==◌, ◌||◌, ◌∷◌}
 
 -- CR or LF
 abbrev pub is_line_byte : ℕ → Bool
@@ -23,3 +23,15 @@ abbrev pub is_due : Place → ℕ → List ℕ → Bool
 is_due Blank b bytes = not (is_line_byte b)
 is_due StartLine b bytes = b == 10
 is_due Fields b bytes = (b == 10) && ends_in_empty_line bytes
+
+-- the byte ends a line of a field, or the empty line behind them
+abbrev pub ends_field : Place → ℕ → Bool
+ends_field Blank b = false
+ends_field StartLine b = false
+ends_field Fields b = b == 10
+
+-- how many lines end behind the start line, where the bytes before end at this place
+abbrev pub field_lines : Place → List ℕ → ℕ
+field_lines place [] = 0
+field_lines place (b ∷ bytes) =
+    (if ends_field place b then 1 else 0) + field_lines (place_after place b) bytes

@@ -5,7 +5,7 @@ use Rattle.gt_http.specs.declared.fault.HttpFault.{HttpFault}
 use Rattle.gt_http.specs.declared.fault.HttpFault.TheVariants.{BadHead, Cut, OutOfMemory, ReadFault, TooLarge}
 use Rattle.gt_requests.specs.declared.incoming.Incoming.{Incoming}
 use Rattle.httparse.specs.Grammar.{HasNoRequest, MayBecomeRequest, RequestHead}
-use Rattle.httparse.specs.Spans.{RequestOverflows}
+use Rattle.httparse.specs.Spans.{RequestExceeds, RequestOverflows}
 use Rattle.std.specs.Prelude.{Err, List, None, Ok, Option, Result, Some, [], length, ℕ, ◌++◌, ◌<◌, ◌≡◌, ◌≤◌, ◌⊎◌}
 
 -- a head whose body has no end that it may name
@@ -38,6 +38,8 @@ pub record IsCutHead (taken : List ℕ) (have want : ℕ) : Type 0 where
   pub short : have < most_head_bytes
   pub none : HasNoRequest taken
   pub open_end : MayBecomeRequest taken
+  -- no more lines of fields are whole than a head may have
+  pub few : ¬ (RequestExceeds most_fields taken)
 
 -- a head, and `have` of the `want` bytes of its body
 pub record IsCutBody (taken : List ℕ) (have want : ℕ) : Type 0 where

@@ -3,11 +3,11 @@ ghost use Rattle.gt_http.specs.Head.{most_fields};
 ghost use Rattle.gt_http.specs.Reading.{IsHeadAt, IsNext, ReadsHead};
 ghost use Rattle.gt_streams.specs.Streams.{IsSameSource};
 ghost use Rattle.httparse.specs.Grammar.{HasNoRequest, MayBecomeRequest};
-ghost use Rattle.httparse.specs.Spans.{RequestOverflows};
+ghost use Rattle.httparse.specs.Spans.{RequestExceeds, RequestOverflows};
 ghost use Rattle.std.specs.Prelude.{IfOk, IfSome, IsErrOf, IsFalse, IsTrue, length, ◌≡◌};
 
 use crate::HttpFault;
-use crate::place::Place;
+use crate::place::{Place, field_lines};
 use gt_causes::Failed;
 use gt_streams::Source;
 use httparse::Status;
@@ -16,6 +16,9 @@ use std::alloc::Global;
 
 /// The bytes of a head, at most.
 const MOST_HEAD_BYTES: usize = 16_384;
+
+/// The fields of a head, at most.
+pub(crate) const MOST_FIELDS: usize = 64;
 
 /// A head, with the places of its parts.
 #[derive(Drop)]
@@ -95,15 +98,17 @@ fn read_byte<S: Source>(source: &mut S) -> Next
     }
 }
 
-// Whether bytes can follow these, which have no head, that make them one.
+// Whether bytes can follow these, which have no head, that make them one. `httparse` doesn't say that it counts the lines
+// of fields that are whole before it asks for more bytes.
 fn is_open(bytes: &[u8], headers: &mut [HeaderSpan]) -> bool
     requires room { length headers.old ≡ most_fields }
     requires none { HasNoRequest bytes.now }
     ensures ok { IsTrue result → MayBecomeRequest bytes.now }
+    ensures few { IsTrue result → ¬ (RequestExceeds most_fields bytes.now) }
     ensures err { IsFalse result → RequestOverflows most_fields bytes.now }
 {
     match parse_request(bytes, headers) {
-        Ok(_) => true,
+        Ok(_) => field_lines(bytes) <= MOST_FIELDS,
         Err(_) => false,
     }
 }

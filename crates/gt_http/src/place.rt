@@ -1,3 +1,4 @@
+ghost use Rattle.gt_http.specs.Place as spec;
 ghost use Rattle.gt_http.specs.Place.{is_due, is_line_byte, place_after};
 ghost use Rattle.std.specs.Prelude.{◌≡◌};
 
@@ -47,6 +48,32 @@ impl Place {
             }
         }
     }
+
+    // Whether the byte ends a line behind the start line.
+    fn ends_field(self, byte: u8) -> bool
+        ensures { result ≡ spec.ends_field self byte }
+    {
+        match self {
+            Place::Blank | Place::StartLine => false,
+            Place::Fields => byte == b'\n',
+        }
+    }
+}
+
+/// How many lines end behind the start line.
+pub(crate) fn field_lines(bytes: &[u8]) -> usize
+    ensures { result ≡ spec.field_lines Place.Blank bytes.now }
+{
+    let mut place = Place::Blank;
+    let mut count = 0;
+    for byte in bytes {
+        if place.ends_field(*byte) {
+            count += 1;
+        }
+        let next = place.after(*byte);
+        place = next;
+    }
+    count
 }
 
 // CR or LF.

@@ -6,15 +6,12 @@ ghost use Rattle.std.specs.Prelude.{IsErrOf, IsTrue, ◌≡◌};
 
 use crate::HttpFault;
 use crate::framing::framing;
-use crate::head::{Head, read_head};
+use crate::head::{Head, MOST_FIELDS, read_head};
 use crate::parts::incoming;
 use gt_requests::Incoming;
 use gt_streams::{Source, StreamFault, read_exactly};
 use httparse::spans::{EMPTY_HEADER_SPAN, HeaderSpan};
 use std::alloc::Global;
-
-/// The fields of a head, at most.
-const MOST_FIELDS: usize = 64;
 
 /// The bytes of a body, at most.
 const MOST_BODY_BYTES: u64 = 4_194_304;

@@ -51,6 +51,8 @@ enum Want {
     End,
     Message(Said),
     Cut(u64, u64),
+    // A head that is bad, or cut after so many bytes.
+    BadOrCut(u64),
     Fault(HttpFault),
 }
 
@@ -131,7 +133,7 @@ const TOKENS: [(&str, Want); 8] = [
     ),
 ];
 
-const LENGTHS: [(&str, Want); 16] = [
+const LENGTHS: [(&str, Want); 18] = [
     (
         "PUT /a HTTP/1.1\r\nContent-Length: 3\r\n\r\nabcd",
         Want::Message(PUT),
@@ -156,6 +158,14 @@ const LENGTHS: [(&str, Want); 16] = [
     ("PUT /a HTTP/1.1\r\nContent-Length: -3\r\n\r\nabc", BAD),
     ("PUT /a HTTP/1.1\r\nContent-Length: 3 3\r\n\r\nabc", BAD),
     ("PUT /a HTTP/1.1\r\nContent-Length:\r\n\r\nabc", BAD),
+    (
+        "PUT /a HTTP/1.1\r\nContent-Length: +3\r\n",
+        Want::Cut(37, 0),
+    ),
+    (
+        "PUT /a HTTP/1.1\r\nContent-Length: 0007\r\n\r\nabc",
+        Want::Cut(3, 7),
+    ),
     (
         "PUT /a HTTP/1.1\r\nContent-Length: 3\r\nContent-Length: 3\r\n\r\nabc",
         BAD,
@@ -229,6 +239,9 @@ fn is_wanted(answer: Result<Option<Incoming>, HttpFault>, want: Want) -> bool {
         (Ok(None), Want::End) => true,
         (Ok(Some(incoming)), Want::Message(said)) => said.is_of(&incoming),
         (Err(fault), Want::Cut(have, want)) => fault == HttpFault::Cut { have, want },
+        (Err(fault), Want::BadOrCut(have)) => {
+            fault == HttpFault::BadHead || fault == HttpFault::Cut { have, want: 0 }
+        }
         (Err(fault), Want::Fault(wanted)) => fault == wanted,
         _ => false,
     }
@@ -262,14 +275,27 @@ fn first_wrong(alloc: Global, rows: &[(&str, Want)]) -> Result<Option<usize>, Al
     Ok(None)
 }
 
-// A head of so many fields.
-fn head_of_fields(alloc: Global, count: usize) -> Result<Vec<u8>, AllocError> {
+// The front of a head, with so many fields.
+fn fields(alloc: Global, count: usize) -> Result<Vec<u8>, AllocError> {
     let mut bytes = b"GET / HTTP/1.1\r\n".to_vec(alloc)?;
     for _ in 0..count {
         bytes.extend_from_slice(b"a:\r\n")?;
     }
+    Ok(bytes)
+}
+
+// A head of so many fields.
+fn head_of_fields(alloc: Global, count: usize) -> Result<Vec<u8>, AllocError> {
+    let mut bytes = fields(alloc, count)?;
     bytes.extend_from_slice(b"\r\n")?;
     Ok(bytes)
+}
+
+// Whether the answer is the one wanted where the input ends in a field behind so many.
+fn ends_behind(alloc: Global, count: usize, part: &[u8], want: Want) -> Result<bool, AllocError> {
+    let mut bytes = fields(alloc, count)?;
+    bytes.extend_from_slice(part)?;
+    is_first(alloc, bytes.as_slice(), want)
 }
 
 // A head of 22 bytes and so many more, in the value of its one field.
@@ -438,6 +464,27 @@ fn limits_of_a_head(rt: HostRuntime) -> Result<(), Fail> {
     let feeds = vec![in alloc; b'\n'; 16_384]?;
     assert!(rt; is_first(alloc, feeds.as_slice(), BAD)?);
     assert!(rt; is_first(alloc, &feeds.as_slice()[1..], Want::Cut(16_383, 0))?);
+    Ok(())
+}
+
+// A field counts where its line is whole. In the 65th, and in a target that no bytes can mend, either answer may come.
+#[test]
+fn ends_of_input_in_a_head(rt: HostRuntime) -> Result<(), Fail> {
+    let alloc = rt.alloc();
+    assert!(rt; ends_behind(alloc, 64, b"", Want::Cut(272, 0))?);
+    assert!(rt; ends_behind(alloc, 64, b"\r", Want::Cut(273, 0))?);
+    assert!(rt; ends_behind(alloc, 64, b"a:", Want::BadOrCut(274))?);
+    assert!(rt; ends_behind(alloc, 65, b"", BAD)?);
+    assert!(rt; ends_behind(alloc, 65, b"a:", BAD)?);
+    assert!(rt; is_first(alloc, b"GET /\xff", Want::BadOrCut(6))?);
+    assert!(rt; is_first(alloc, b"GET /\xff HTTP/1.1\r\n", BAD)?);
+    Ok(())
+}
+
+#[test]
+fn token_that_is_no_text(rt: HostRuntime) -> Result<(), Fail> {
+    let head = b"GET / HTTP/1.1\r\nAuthorization: Bearer \xff\r\n\r\n";
+    assert!(rt; is_first(rt.alloc(), head, PLAIN)?);
     Ok(())
 }
 

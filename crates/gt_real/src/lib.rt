@@ -5,16 +5,12 @@
 #![tactic(auto)]
 
 mod crossing;
-#[cfg(test)]
-mod door_tests;
 mod file_disk;
 mod real_clock;
 mod std_sink;
 mod std_source;
 mod tcp_door;
 mod tcp_link;
-#[cfg(test)]
-mod tests;
 
 pub use crossing::{send_clock, send_disk, send_door, send_link, send_sink, send_source};
 pub use file_disk::{FileDisk, FileFault};

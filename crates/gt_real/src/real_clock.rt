@@ -29,7 +29,7 @@ impl<R: std::time::Clock + Drop> Clock for RealClock<R> {
 }
 
 // The moment of so many seconds since 1970, or the first where there is none.
-pub(crate) fn moment_of(seconds: u64) -> Moment
+fn moment_of(seconds: u64) -> Moment
     ensures inside { seconds ≤ last_moment → result ≡ seconds }
     ensures outside { last_moment < seconds → result ≡ 0 }
 {

@@ -66,12 +66,12 @@ impl<R: Read + AsRawFd + Drop> Source for StdSource<R> {
         ensures same { CountsFaults self.old self.new result }
         ensures room { IfOk result (λ n. n ≤ length into.old) }
     {
-        if self.has_ended {
+        if self.has_ended || into.is_empty() {
             return Ok(0);
         }
         match read_once(&mut self.reader, into) {
             Ok(n) => {
-                self.has_ended = n == 0 && !into.is_empty();
+                self.has_ended = n == 0;
                 self.lines = self.lines.saturating_add(newlines(&into[..n]));
                 Ok(n)
             }

@@ -110,7 +110,11 @@ fn drop_rest(stream: &TcpStream, into: &mut [u8]) {
                     return;
                 }
             }
-            Err(_) => return,
+            Err(error) => {
+                if error.kind() != ErrorKind::Interrupted {
+                    return;
+                }
+            }
         }
     }
 }
@@ -126,7 +130,7 @@ impl Source for TcpIn {
         ensures same { CountsFaults self.old self.new result }
         ensures room { IfOk result (λ n. n ≤ length into.old) }
     {
-        if self.from == self.to {
+        if self.from == self.to && !into.is_empty() {
             self.from = 0;
             self.to = 0;
             match read_some(&self.stream, &mut self.ahead) {

@@ -1,10 +1,9 @@
 -- No path is at two resources.
-use Rattle.std.proofs.Common.{◌≡◌, ◌≤◌, ℕ, zero, suc, List, [], ◌∷◌, length, ◌==◌, ◌&&◌, not, Bool, true, false, cond, Option, Some, None, refl, sym, ap, ◌∙◌, subst, true≢false, arith}
+use Rattle.std.proofs.Common.{◌≡◌, ◌≤◌, ℕ, zero, suc, List, [], ◌∷◌, length, ◌==◌, ◌&&◌, not, Bool, true, false, cond, Some, None, refl, sym, ap, ◌∙◌, subst, true≢false, arith}
 use Rattle.std.proofs.lemmas.Bool.{eqb-true, eq-eqb}
 use Rattle.matchit.specs.Rows.{param_token}
 use Rattle.matchit.specs.Seek.{slash}
-use Rattle.gt_requests.specs.Routes.{is_over, fits, pattern, is_at, find_resource}
-use Rattle.gt_requests.specs.declared.resource.TheConstants.{RESOURCES}
+use Rattle.gt_requests.specs.Resources.{fits, pattern, is_at, find_resource, resources}
 use Rattle.gt_requests.specs.declared.resource.Resource.{Resource}
 use Rattle.gt_requests.proofs.ResourceLemmas.{At, listed}
 use Rattle.gt_requests.proofs.SeekLemmas.{both_first, both_second, rest_at, short-rest, fits-inside, not-true, over-nil}
@@ -103,8 +102,8 @@ pub no_resource : (ps : List Resource) (path : List ℕ) → ((p : Resource) →
 no_resource [] path h = refl
 no_resource (p ∷ ps) path h = rw (h p) (no_resource ps path h)
 
-resources_apart : all_apart RESOURCES ≡ true
+resources_apart : all_apart resources ≡ true
 resources_apart = refl
 
-pub the_resource : (p : Resource) (path : List ℕ) → is_at p path ≡ true → find_resource RESOURCES path ≡ Some p
-the_resource p path f = found_resource p RESOURCES (listed p).0 path (listed p).1 resources_apart f
+pub the_resource : (p : Resource) (path : List ℕ) → is_at p path ≡ true → find_resource resources path ≡ Some p
+the_resource p path f = found_resource p resources (listed p).0 path (listed p).1 resources_apart f

@@ -1,10 +1,12 @@
-pub mod ApartLemmas
-pub mod BodyLemmas
-pub mod CountLemmas
-pub mod LimitLemmas
-pub mod ResourceLemmas
-pub mod RowLemmas
-pub mod SeekLemmas
-pub mod SetupLemmas
-pub mod Shapes
-pub mod ToldLemmas
+mod ApartLemmas
+mod BadLemmas
+mod CauseLemmas
+mod CountLemmas
+mod LimitLemmas
+mod MemberLemmas
+mod ResourceLemmas
+mod RowLemmas
+mod SeekLemmas
+mod SetupLemmas
+mod Shapes
+mod ToldLemmas

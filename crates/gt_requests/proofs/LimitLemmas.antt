@@ -1,5 +1,5 @@
 -- The limits of a transfer's specification, from those of its document's parts.
-use Rattle.std.proofs.Common.{◌≡◌, ◌<◌, ℕ, Bool, true, false, ◌&&◌, ◌==◌, cond, eqb, leb, not, List, [], ◌∷◌, length, Option, Some, None, refl, sym, ap, ◌∙◌, subst, arith}
+use Rattle.std.proofs.Common.{◌≡◌, ◌<◌, ℕ, Bool, true, false, ◌&&◌, ◌==◌, leb, not, List, [], ◌∷◌, length, Option, Some, None, refl, ap, ◌∙◌, subst}
 use Rattle.std.specs.List.{list_all}
 use Rattle.std.specs.Str.{bytes_eq}
 use Rattle.std.specs.Prelude.{Ok, ok_or}
@@ -14,9 +14,10 @@ use Rattle.gt_types.specs.declared.spec.TransferEntry.{TransferEntry}
 use Rattle.gt_types.specs.declared.reply.ReplyCode.TheVariants.{EndpointNotFound}
 use Rattle.gt_values.specs.Forms.{if_there, is_id}
 use Rattle.gt_requests.proofs.SetupLemmas.{one_collection}
-use Rattle.gt_requests.specs.Request.{collection_with, plain}
+use Rattle.gt_requests.specs.Request.{collection_with}
 use Rattle.gt_requests.specs.Transfer.{spec_of}
 use Rattle.gt_requests.specs.declared.refusal.Refusal.{Refusal}
+use Rattle.gt_requests.specs.declared.refusal.Refusal.TheVariants.{Plain}
 use Rattle.gt_requests.specs.declared.transfer.Submission.{Submission}
 
 -- what is apart in one collection is apart in two
@@ -65,7 +66,7 @@ pub submit_limits : (setup : Setup) (s : Submission) (source destination : ℕ)
     → is_entries (is_transfer_entry (bytes_eq s.ends.source s.ends.destination)) s.entries ≡ true
     → is_command (length setup.collections) (SubmitTransfer s.ends.submission (spec_of s source destination)) ≡ true
 submit_limits setup s source destination from to first second id options entries =
-    let read = found_at (collection_of setup s.ends.source) (plain EndpointNotFound) source from in
-    let written = found_at (collection_of setup s.ends.destination) (plain EndpointNotFound) destination to in
+    let read = found_at (collection_of setup s.ends.source) (Plain EndpointNotFound) source from in
+    let written = found_at (collection_of setup s.ends.destination) (Plain EndpointNotFound) destination to in
     let one = λ (e : (source == destination) ≡ true). one_collection setup s.ends.source s.ends.destination destination (read ∙ ap Some (eqb-true source destination e)) written in
     submit_is_command (length setup.collections) s source destination id first second options entries one

@@ -1,6 +1,6 @@
 -- Each resource stands once in the table of resources.
 use Rattle.std.proofs.Common.{◌≡◌, ℕ, zero, suc, List, [], ◌∷◌, refl}
-use Rattle.gt_requests.specs.declared.resource.TheConstants.{RESOURCES}
+use Rattle.gt_requests.specs.Resources.{resources}
 use Rattle.gt_requests.specs.declared.resource.Resource.{Resource}
 use Rattle.gt_requests.specs.declared.resource.Resource.TheVariants as resource
 
@@ -10,7 +10,7 @@ At r [] i = ⊥
 At r (q ∷ qs) zero = q ≡ r
 At r (q ∷ qs) (suc i) = At r qs i
 
-pub listed : (r : Resource) → (i : ℕ) × At r RESOURCES i
+pub listed : (r : Resource) → (i : ℕ) × At r resources i
 listed resource.SubmissionId = (0, refl)
 listed resource.Transfer = (1, refl)
 listed resource.TaskList = (2, refl)

@@ -1,13 +1,13 @@
 -- What `first` finds in rows whose parameters are whole pieces: a row that fits the path, and none only where none fits.
-use Rattle.std.proofs.Common.{◌≡◌, ◌≢◌, ◌⊎◌, inl, inr, ℕ, zero, suc, ◌+◌, ◌-◌, ◌<◌, ◌≤◌, ◌==◌, ◌&&◌, not, List, [], ◌∷◌, ◌++◌, length, drop, Bool, true, false, cond, ltb, Option, Some, None, refl, sym, ap, subst, ◌∙◌, true≢false, arith, rules, nat_eq}
+use Rattle.std.proofs.Common.{◌≡◌, ◌⊎◌, inl, inr, ℕ, zero, suc, ◌-◌, ◌<◌, ◌≤◌, ◌==◌, ◌&&◌, not, List, [], ◌∷◌, length, drop, Bool, true, false, cond, ltb, Option, Some, None, refl, sym, ap, subst, ◌∙◌, true≢false, arith, nat_eq}
 use Rattle.std.proofs.lemmas.Bool.{eqb-true, eq-eqb}
 use Rattle.std.proofs.lemmas.Bool.Decides.{nat_tests}
 use Rattle.std.proofs.lemmas.Grind.{common_steps}
 use Rattle.std.specs.Cmp.Lexicographic.{pointwise}
-use Rattle.std.specs.List.{AllByRecursion, ends_with}
+use Rattle.std.specs.List.{AllByRecursion}
 use Rattle.matchit.specs.Rows.{RowsOf, param_token, catch_all_token}
-use Rattle.matchit.specs.Seek.{slash, segment, has_slash, same_text, cuts, better, own, step, or_else, longest_from, longest_suffix, with_suffix, param_step, seek, first}
-use Rattle.gt_requests.specs.Routes.{is_over, fits}
+use Rattle.matchit.specs.Seek.{slash, segment, has_slash, same_text, cuts, own, step, or_else, longest_from, longest_suffix, with_suffix, param_step, seek, first}
+use Rattle.gt_requests.specs.Resources.{is_over, fits}
 use Rattle.gt_requests.proofs.Shapes.{starts_piece, is_shaped}
 
 -- ---- tests

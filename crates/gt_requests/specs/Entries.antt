@@ -1,17 +1,13 @@
 -- The entries of a transfer document.
-use Rattle.std.specs.Prelude.{Bool, Err, List, None, Ok, Option, Result, Some, [], codes, false, if◌then◌else◌, nat_le, not, true, ℕ, ◌&&◌, ◌+◌, ◌∷◌}
-use Rattle.serde_json.specs.Data.{Data, Items, array, item, no_items}
-use Rattle.serde_json.specs.Events.{items_len}
+use Rattle.std.specs.Prelude.{Bool, List, Ok, Option, Result, codes, not, ◌&&◌}
+use Rattle.serde_json.specs.Data.{Data}
+use Rattle.gt_documents.specs.Lists.{items_at}
+use Rattle.gt_documents.specs.Members.{constant_at, object_at, path_at, unset_at}
+use Rattle.gt_documents.specs.Place.{Place, member_place}
+use Rattle.gt_documents.specs.Reading.{unless_not}
 use Rattle.gt_paths.specs.Path.{PathValue, overlaps}
 use Rattle.gt_types.specs.declared.spec.TransferEntry.{TransferEntry}
-use Rattle.gt_requests.specs.Members.{constant_at, member_of, object_at, path_at, unset_at}
-use Rattle.gt_requests.specs.Reading.{unless_not}
 use Rattle.gt_values.specs.Results.{◌>>=◌}
-use Rattle.gt_requests.specs.declared.place.Member.TheVariants as member
-use Rattle.gt_requests.specs.declared.place.Place.{Place}
-use Rattle.gt_requests.specs.declared.place.Place.TheVariants.{OfMember}
-use Rattle.gt_requests.specs.declared.place.Within.{Within}
-use Rattle.gt_requests.specs.declared.place.Within.TheVariants.{Document, Item}
 
 -- the homes of the two collections, and whether they are one
 pub record Sides : Type 0 where
@@ -23,28 +19,24 @@ pub record Sides : Type 0 where
 abbrev pub sides_between : PathValue → PathValue → Bool → Sides
 sides_between source destination are_one = record { source = source; destination = destination; are_one = are_one }
 
--- two paths, which don't overlap where the collections are one
-unfoldable pub entry_of : Sides → Within → Data → Result TransferEntry Place
-entry_of sides within d = do
-  _ ← object_at within d
-  _ ← constant_at (codes "transfer_item") within d member.DataType
-  source ← path_at sides.source within d member.SourcePath
-  destination ← path_at sides.destination within d member.DestinationPath
-  _ ← unless_not (not (sides.are_one && overlaps source destination)) (OfMember within member.DestinationPath)
-  recursive ← unset_at within d member.Recursive
+-- the two paths don't overlap where the collections are one
+abbrev pub apart_at : Bool → PathValue → PathValue → Result Unit Place
+apart_at are_one source destination = unless_not (not (are_one && overlaps source destination)) (member_place (codes "destination_path"))
+
+-- the member `recursive` of an entry of these paths, which are tested first
+abbrev pub recursive_at : Bool → PathValue → PathValue → Data → Result (Option Bool) Place
+recursive_at are_one source destination d = apart_at are_one source destination >>= λ _. unset_at d (codes "recursive")
+
+-- two paths, which are apart
+unfoldable pub entry_of : Sides → Data → Result TransferEntry Place
+entry_of sides d = do
+  _ ← object_at d
+  _ ← constant_at (codes "transfer_item") d (codes "DATA_TYPE")
+  source ← path_at sides.source d (codes "source_path")
+  destination ← path_at sides.destination d (codes "destination_path")
+  recursive ← recursive_at sides.are_one source destination d
   Ok (record { source = source; destination = destination; recursive = recursive })
 
--- the entries, numbered on from a place
-abbrev pub entries_from : Sides → ℕ → Items → Result (List TransferEntry) Place
-entries_from sides at no_items = Ok []
-entries_from sides at (item d ds) =
-    entry_of sides (Item member.Data at) d >>= λ entry. entries_from sides (at + 1) ds >>= λ entries. Ok (entry ∷ entries)
-
 -- 1 to 10,000 entries
-abbrev pub entries_in : Sides → Option Data → Result (List TransferEntry) Place
-entries_in sides (Some (array ds)) =
-    if nat_le 1 (items_len ds) && nat_le (items_len ds) 10000 then entries_from sides 0 ds else Err (OfMember Document member.Data)
-entries_in sides _ = Err (OfMember Document member.Data)
-
 unfoldable pub entries_of : Sides → Data → Result (List TransferEntry) Place
-entries_of sides d = entries_in sides (member_of d member.Data)
+entries_of sides d = items_at (entry_of sides) 1 10000 d (codes "DATA")

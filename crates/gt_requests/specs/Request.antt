@@ -1,48 +1,31 @@
 -- A request as it is read: the caller and the command, or the first refusal that needs no state.
-use Rattle.std.specs.List.{slice_split}
-use Rattle.std.specs.Option.{option_map_or}
-use Rattle.std.specs.Prelude.{Err, List, None, Ok, Option, Result, Some, [], length, nat_le, ok_or, option_and_then, option_map, slice_get, ℕ, ◌==◌}
+use Rattle.std.specs.Prelude.{Err, List, Ok, Option, Result, [], length, nat_le, ok_or, option_and_then, option_map, ℕ}
 use Rattle.std.specs.Result.{result_map_both}
 use Rattle.gt_setup.specs.Setup.{Setup, collection_of, identity_of}
 use Rattle.gt_types.specs.declared.command.Command.{Command}
 use Rattle.gt_types.specs.declared.command.Command.TheVariants.{AddAccess, EndAccess, IssueId, ListAccess, ListSkipped, ListSuccesses, ListTasks, ReplaceAccess, ShowAccess, ShowEndpoint, ShowTask, SubmitTransfer}
-use Rattle.gt_types.specs.declared.reply.ReplyCode.{ReplyCode}
 use Rattle.gt_types.specs.declared.reply.ReplyCode.TheVariants.{AuthenticationFailed, BadRequest, EndpointNotFound, NotFound, RuleNotFound, TaskNotFound, TooLarge}
-use Rattle.gt_values.specs.IdText.{id_of}
+use Rattle.gt_documents.specs.Members.{object_of}
+use Rattle.gt_documents.specs.Place.{Place, place_text}
+use Rattle.gt_documents.specs.Query.{page_at}
+use Rattle.gt_documents.specs.Reading.{unless_not}
+use Rattle.gt_values.specs.Results.{◌>>=◌}
 use Rattle.gt_requests.specs.Access.{access_of, permission_of}
 use Rattle.gt_requests.specs.Actions.{action_of}
-use Rattle.gt_requests.specs.Members.{object_of}
-use Rattle.gt_requests.specs.Place.{place_text}
-use Rattle.gt_requests.specs.Query.{front_of, query_of, window_at}
-use Rattle.gt_requests.specs.Reading.{unless_not}
-use Rattle.gt_values.specs.Results.{◌>>=◌}
-use Rattle.gt_requests.specs.Routes.{resource_at}
+use Rattle.gt_requests.specs.Resources.{resource_at}
+use Rattle.gt_requests.specs.Target.{front_of, piece_id, query_of}
 use Rattle.gt_requests.specs.Transfer.{home_or_root, spec_of, submission_of}
 use Rattle.gt_requests.specs.declared.action.Action.{Action}
 use Rattle.gt_requests.specs.declared.action.Action.TheVariants as action
 use Rattle.gt_requests.specs.declared.fault.RequestFault.{RequestFault}
 use Rattle.gt_requests.specs.declared.fault.RequestFault.TheVariants.{Refused}
-use Rattle.gt_requests.specs.declared.page.Window.{Window}
-use Rattle.gt_requests.specs.declared.place.Place.{Place}
-use Rattle.gt_requests.specs.declared.place.Place.TheVariants.{Nowhere, Query}
 use Rattle.gt_requests.specs.declared.refusal.Refusal.{Refusal}
+use Rattle.gt_requests.specs.declared.refusal.Refusal.TheVariants.{Bad, Plain}
 
--- a refusal that names no place
-abbrev pub plain : ReplyCode → Refusal
-plain code = record { code = code; place = Nowhere }
-
--- a bad place of a query or a document
-abbrev pub bad_at : Place → Refusal
-bad_at place = record { code = BadRequest; place = place }
-
--- a document, whose bad place is the refusal's
+-- a document or a query, whose bad place is the refusal's
 abbrev pub document : {A : Type 0} → Result A Place → Result A Refusal
 document (Ok a) = Ok a
-document (Err place) = Err (bad_at place)
-
--- the identifier that a piece of the front is; slashes part the pieces, which count from 0
-unfoldable pub piece_id : List ℕ → ℕ → Option (List ℕ)
-piece_id front place = option_and_then id_of (slice_get (slice_split (λ b. b == 47) front) place)
+document (Err place) = Err (Bad place)
 
 -- the collection that the front names, if the setup has it
 unfoldable pub known_in : Setup → List ℕ → Option ℕ
@@ -50,24 +33,20 @@ known_in setup front = option_and_then (collection_of setup) (piece_id front 3)
 
 -- the collection, the task or the rule that the front names
 abbrev pub collection_in : Setup → List ℕ → Result ℕ Refusal
-collection_in setup front = ok_or (known_in setup front) (plain EndpointNotFound)
+collection_in setup front = ok_or (known_in setup front) (Plain EndpointNotFound)
 
 abbrev pub task_in : List ℕ → Result (List ℕ) Refusal
-task_in front = ok_or (piece_id front 3) (plain TaskNotFound)
+task_in front = ok_or (piece_id front 3) (Plain TaskNotFound)
 
 abbrev pub rule_in : Setup → List ℕ → Result (ℕ × List ℕ) Refusal
 rule_in setup front = do
   collection ← collection_in setup front
-  rule ← ok_or (piece_id front 5) (plain RuleNotFound)
+  rule ← ok_or (piece_id front 5) (Plain RuleNotFound)
   Ok (collection, rule)
-
--- the page that the query asks for
-abbrev pub window_in : List ℕ → Result Window Refusal
-window_in query = ok_or (window_at query) (bad_at Query)
 
 -- the collection with this identifier
 abbrev pub collection_with : Setup → List ℕ → Result ℕ Refusal
-collection_with setup id = ok_or (collection_of setup id) (plain EndpointNotFound)
+collection_with setup id = ok_or (collection_of setup id) (Plain EndpointNotFound)
 
 -- the transfer that a document asks: the document, then its source, then its destination
 unfoldable pub submit_of : Setup → List ℕ → Result Command Refusal
@@ -94,8 +73,8 @@ replace_access_of setup front body = do
 -- a page of the caller's tasks
 unfoldable pub tasks_of : List ℕ → Result Command Refusal
 tasks_of query = do
-  window ← window_in query
-  Ok (ListTasks window.limit window.offset)
+  page ← document (page_at query)
+  Ok (ListTasks page.limit page.offset)
 
 -- a rule of a collection: the collection, then the rule
 unfoldable pub rule_of : (ℕ → List ℕ → Command) → Setup → List ℕ → Result Command Refusal
@@ -106,9 +85,9 @@ rule_of command setup front = do
 -- a page of a task's rows: the query, then the task
 unfoldable pub rows_of : (List ℕ → ℕ → ℕ → Command) → List ℕ → List ℕ → Result Command Refusal
 rows_of command front query = do
-  window ← window_in query
+  page ← document (page_at query)
   task ← task_in front
-  Ok (command task window.limit window.offset)
+  Ok (command task page.limit page.offset)
 
 -- the command of each action, read from the target's front, its query and the body
 unfoldable pub command_of : Setup → Action → List ℕ → List ℕ → List ℕ → Result Command Refusal
@@ -132,21 +111,22 @@ caller_of setup token = option_map (λ who. who.identity) (option_and_then (iden
 -- what a request asks, by its method and its target's front: the route, then the method
 unfoldable pub route_of : List ℕ → List ℕ → Result Action Refusal
 route_of method front = do
-  resource ← ok_or (resource_at front) (plain NotFound)
-  result_map_both (λ action. action) plain (action_of resource method)
+  resource ← ok_or (resource_at front) (Plain NotFound)
+  result_map_both (λ action. action) Plain (action_of resource method)
 
 -- the refusals that need no state, in their order
 unfoldable pub read_of : Setup → List ℕ → List ℕ → Option (List ℕ) → List ℕ → Result (List ℕ × Command) Refusal
 read_of setup method target token body = do
-  _ ← unless_not (nat_le (length body) 4194304) (plain TooLarge)
+  _ ← unless_not (nat_le (length body) 4194304) (Plain TooLarge)
   action ← route_of method (front_of target)
-  caller ← ok_or (caller_of setup token) (plain AuthenticationFailed)
+  caller ← ok_or (caller_of setup token) (Plain AuthenticationFailed)
   command ← command_of setup action (front_of target) (query_of target) body
   Ok (caller, command)
 
 -- how a refusal is told
 abbrev pub told : Refusal → RequestFault
-told refusal = Refused refusal.code (place_text refusal.place)
+told (Plain code) = Refused code []
+told (Bad place) = Refused BadRequest (place_text place)
 
 -- a request under a setup, from its method, target, token and body
 unfoldable pub request_of : Setup → List ℕ → List ℕ → Option (List ℕ) → List ℕ → Result (List ℕ × Command) RequestFault

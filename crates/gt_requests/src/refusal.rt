@@ -1,46 +1,25 @@
 ghost use Rattle.gt_requests.specs.Outcome.{IsTold};
-ghost use Rattle.gt_requests.specs.Request.{bad_at, plain};
-ghost use Rattle.std.specs.Prelude.{◌≡◌};
+ghost use Rattle.gt_requests.specs.Request.{told};
+ghost use Rattle.std.specs.Prelude.{◌≡◌, IfOk, IsOk};
 
-use crate::fault::{DocumentFault, RequestFault};
-use crate::place::Place;
+use crate::fault::RequestFault;
+use gt_documents::{DocumentFault, Place};
 use gt_types::ReplyCode;
+use gt_values::Text;
 use std::alloc::{AllocError, Global};
 
-/// A refusal, with the place that it names.
-#[derive(Clone, Copy, Debug, PartialEq, Eq)]
-pub(crate) struct Refusal {
-    pub(crate) code: ReplyCode,
-    pub(crate) place: Place,
+/// A refusal: a code alone, or the bad request whose query or document is bad at this place.
+#[derive(Debug, Drop)]
+pub(crate) enum Refusal {
+    Plain(ReplyCode),
+    Bad(Place),
 }
 
 /// Why a request has no command: a refusal, or want of memory.
-#[derive(Clone, Copy, Debug, PartialEq, Eq)]
+#[derive(Debug, Drop)]
 pub(crate) enum ReadFault {
     Refusal(Refusal),
     OutOfMemory,
-}
-
-impl Refusal {
-    /// A refusal that names no place.
-    pub(crate) fn plain(code: ReplyCode) -> Refusal
-        ensures { result ≡ plain code }
-    {
-        Refusal {
-            code,
-            place: Place::Nowhere,
-        }
-    }
-
-    /// The refusal of a query or a document for what is bad at this place.
-    pub(crate) fn bad_at(place: Place) -> Refusal
-        ensures { result ≡ bad_at place }
-    {
-        Refusal {
-            code: ReplyCode::BadRequest,
-            place,
-        }
-    }
 }
 
 impl ReadFault {
@@ -48,16 +27,27 @@ impl ReadFault {
     pub(crate) fn told(self, alloc: Global) -> RequestFault
         ensures { IsTold self result }
     {
-        let ReadFault::Refusal(refusal) = self else {
-            return RequestFault::OutOfMemory;
-        };
-        match refusal.place.text(alloc) {
-            Ok(place) => RequestFault::Refused {
-                code: refusal.code,
-                place,
+        match self {
+            ReadFault::Refusal(Refusal::Plain(code)) => RequestFault::Refused {
+                code,
+                place: Text::from_string(String::new(alloc)),
             },
-            Err(_) => RequestFault::OutOfMemory,
+            ReadFault::Refusal(Refusal::Bad(place)) => bad_request(alloc, &place),
+            ReadFault::OutOfMemory => RequestFault::OutOfMemory,
         }
+    }
+}
+
+// The refusal of what is bad at this place.
+fn bad_request(alloc: Global, place: &Place) -> RequestFault
+    ensures { IsTold (ReadFault.Refusal (Refusal.Bad place.now)) result }
+{
+    match place.text(alloc) {
+        Ok(place) => RequestFault::Refused {
+            code: ReplyCode::BadRequest,
+            place,
+        },
+        Err(_) => RequestFault::OutOfMemory,
     }
 }
 
@@ -72,6 +62,18 @@ impl From<Refusal> for ReadFault {
     }
 }
 
+impl From<Place> for ReadFault {
+    ghost use Rattle.gt_requests.specs.declared.refusal.ReadFault.TheVariants as fault;
+    ghost use Rattle.gt_requests.specs.declared.refusal.Refusal.TheVariants.{Bad};
+    ghost use Rattle.std.specs.Prelude.{◌≡◌};
+
+    ghost from_gives = { λ place f. f ≡ fault.Refusal (Bad place) };
+
+    fn from(place: Place) -> ReadFault {
+        ReadFault::Refusal(Refusal::Bad(place))
+    }
+}
+
 impl From<DocumentFault> for ReadFault {
     ghost use Rattle.gt_requests.specs.Outcome.{read_fault};
     ghost use Rattle.std.specs.Prelude.{◌≡◌};
@@ -80,7 +82,7 @@ impl From<DocumentFault> for ReadFault {
 
     fn from(fault: DocumentFault) -> ReadFault {
         match fault {
-            DocumentFault::Bad(place) => ReadFault::Refusal(Refusal::bad_at(place)),
+            DocumentFault::Bad(place) => ReadFault::Refusal(Refusal::Bad(place)),
             DocumentFault::OutOfMemory => ReadFault::OutOfMemory,
         }
     }

@@ -1,5 +1,4 @@
-ghost use Rattle.gt_requests.specs.Query.{front_of, query_of};
-ghost use Rattle.gt_requests.specs.Request.{piece_id};
+ghost use Rattle.gt_requests.specs.Target.{front_of, piece_id, query_of};
 ghost use Rattle.gt_values.specs.Forms.{is_id};
 ghost use Rattle.std.specs.List.{slice_get, slice_split};
 ghost use Rattle.std.specs.Prelude.{◌≡◌, ◌==◌, IfSome, option_copied, true};
@@ -18,7 +17,7 @@ pub(crate) fn cut_query(target: &str) -> (&str, &str)
 }
 
 /// The identifier that a piece of a front is. Pieces are what slashes part, counted from 0.
-#[tactic(auto, unfolding(crate::specs::Request::piece_id))]
+#[tactic(auto, unfolding(crate::specs::Target::piece_id))]
 pub(crate) fn id_in(front: &str, place: usize) -> Option<Id>
     ensures value { result ≡ piece_id front.now place }
     ensures limits { IfSome result (λ id. is_id id ≡ true) }
@@ -26,7 +25,7 @@ pub(crate) fn id_in(front: &str, place: usize) -> Option<Id>
     Id::read(piece(front, place)?)
 }
 
-/// A piece of a front.
+// A piece of a front.
 fn piece(front: &str, place: usize) -> Option<&str>
     ensures { option_copied result ≡ slice_get (slice_split (λ b. b == 47) front.now) place }
 {

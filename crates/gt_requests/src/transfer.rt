@@ -1,6 +1,6 @@
+ghost use Rattle.gt_documents.specs.Reading.{ReadsAs};
 ghost use Rattle.gt_requests.specs.Entries.{entries_of};
-ghost use Rattle.gt_requests.specs.Reading.{ReadsAs};
-ghost use Rattle.gt_requests.specs.Transfer.{ends_of, flags_of, home_or_root, label_at, no_rules_at, options_of, sides_of, spec_of, submission_of};
+ghost use Rattle.gt_requests.specs.Transfer.{ends_of, flags_of, home_or_root, no_rules_at, options_of, sides_of, spec_of, submission_of};
 ghost use Rattle.gt_types.specs.Forms.{is_entries, is_kept, is_label};
 ghost use Rattle.gt_types.specs.SpecForms.{is_transfer_entry};
 ghost use Rattle.gt_types.specs.declared.command.Command.TheVariants as command;
@@ -10,14 +10,14 @@ ghost use Rattle.std.specs.Prelude.{◌≡◌, ◌&&◌, ◌<◌, [], IfOk, leng
 ghost use Rattle.std.specs.Option.{ForSome};
 ghost use Rattle.std.specs.Str.{bytes_eq};
 
-use crate::entries::read_entries;
-use crate::fault::DocumentFault;
-use crate::kept::read_kept;
-use crate::members::{absent, constant, constant_if_there, id, member, switch, unset};
-use crate::place::{Member, Place, Within};
+use crate::entries::{Sides, read_entries};
+use crate::shared::{read_deadline, read_kept, read_label};
+use gt_documents::{
+    DocumentFault, Place, absent, constant, constant_if_there, id, list_in, switch, unset,
+};
 use gt_paths::Path;
 use gt_setup::Setup;
-use gt_types::{Command, Kept, TransferEntry, TransferSpec, is_label};
+use gt_types::{Command, Kept, TransferEntry, TransferSpec};
 use gt_values::{Id, Sequence, Text};
 use serde_json::Value;
 use std::alloc::Global;
@@ -63,10 +63,13 @@ pub(crate) fn read_submission(
 ) -> Result<Submission, DocumentFault>
     ensures value { ReadsAs (submission_of setup.now (view object.now)) result }
     ensures ids { IfOk result (λ s. is_id s.ends.submission ≡ true) }
-    ensures options { IfOk result (λ s. (if_there is_label s.options.label && is_kept s.options.kept) ≡ true) }
-    ensures entries { IfOk result (λ s. is_entries (is_transfer_entry (bytes_eq s.ends.source s.ends.destination)) s.entries ≡ true) }
+    ensures options { IfOk result
+        (λ s. (if_there is_label s.options.label && is_kept s.options.kept) ≡ true) }
+    ensures entries { IfOk result (λ s.
+        is_entries (is_transfer_entry (bytes_eq s.ends.source s.ends.destination)) s.entries
+        ≡ true) }
 {
-    constant(object, Within::Document, Member::DataType, "transfer")?;
+    constant(object, "DATA_TYPE", "transfer")?;
     let ends = read_ends(object)?;
     let options = read_options(alloc, object)?;
     let entries = entries_between(alloc, setup, object, &ends)?;
@@ -77,7 +80,7 @@ pub(crate) fn read_submission(
     })
 }
 
-/// The entries of a transfer document between its collections.
+// The entries of a transfer document between its collections.
 fn entries_between(
     alloc: Global,
     setup: &Setup,
@@ -85,13 +88,19 @@ fn entries_between(
     ends: &Ends,
 ) -> Result<Sequence<TransferEntry>, DocumentFault>
     ensures value { ReadsAs (entries_of (sides_of setup.now ends.now) (view object.now)) result }
-    ensures limits { IfOk result (λ entries. is_entries (is_transfer_entry (bytes_eq ends.now.source ends.now.destination)) entries ≡ true) }
+    ensures limits { IfOk result (λ entries.
+        is_entries (is_transfer_entry (bytes_eq ends.now.source ends.now.destination)) entries
+        ≡ true) }
 {
     let root = Path::root(alloc);
     let source = home_or(setup, setup.collection_of(&ends.source), &root);
     let destination = home_or(setup, setup.collection_of(&ends.destination), &root);
-    let are_one = ends.source == ends.destination;
-    read_entries(alloc, object, source, destination, are_one)
+    let sides = Sides {
+        source,
+        destination,
+        are_one: ends.source == ends.destination,
+    };
+    read_entries(alloc, object, &sides)
 }
 
 /// The home of the collection, or the root where it is unknown.
@@ -106,16 +115,15 @@ pub(crate) fn home_or<'a>(setup: &'a Setup, collection: Option<u32>, root: &'a P
     }
 }
 
-/// The submission and the two collections.
+// The submission and the two collections.
 #[tactic(auto, unfolding(crate::specs::Transfer::ends_of))]
 fn read_ends(object: &Value) -> Result<Ends, Place>
     ensures value { result ≡ ends_of (view object.now) }
     ensures limits { IfOk result (λ ends. is_id ends.submission ≡ true) }
 {
-    let within = Within::Document;
-    let submission = id(object, within, Member::SubmissionId)?;
-    let source = id(object, within, Member::SourceEndpoint)?;
-    let destination = id(object, within, Member::DestinationEndpoint)?;
+    let submission = id(object, "submission_id")?;
+    let source = id(object, "source_endpoint")?;
+    let destination = id(object, "destination_endpoint")?;
     Ok(Ends {
         submission,
         source,
@@ -123,33 +131,31 @@ fn read_ends(object: &Value) -> Result<Ends, Place>
     })
 }
 
-/// What holds of the whole transfer.
+// What holds of the whole transfer.
 #[tactic(auto, unfolding(crate::specs::Transfer::options_of))]
 fn read_options(alloc: Global, object: &Value) -> Result<Options, DocumentFault>
     ensures value { ReadsAs (options_of (view object.now)) result }
     ensures limits { IfOk result (λ o. (if_there is_label o.label && is_kept o.kept) ≡ true) }
 {
-    let within = Within::Document;
     let label = read_label(alloc, object)?;
-    absent(object, within, Member::Deadline)?;
-    absent(object, within, Member::SyncLevel)?;
+    read_deadline(object)?;
+    absent(object, "sync_level")?;
     let flags = read_flags(object)?;
-    constant_if_there(object, within, Member::RecursiveSymlinks, "ignore")?;
+    constant_if_there(object, "recursive_symlinks", "ignore")?;
     let kept = read_kept(object)?;
     no_rules(object)?;
     Ok(Options { label, flags, kept })
 }
 
-/// The booleans that have an effect.
+// The booleans that have an effect.
 #[tactic(auto, unfolding(crate::specs::Transfer::flags_of))]
 fn read_flags(object: &Value) -> Result<Flags, Place>
     ensures { result ≡ flags_of (view object.now) }
 {
-    let within = Within::Document;
-    let verify = switch(object, within, Member::VerifyChecksum)?;
-    let preserve = switch(object, within, Member::PreserveTimestamp)?;
-    unset(object, within, Member::DeleteDestinationExtra)?;
-    let skip_source = switch(object, within, Member::SkipSourceErrors)?;
+    let verify = switch(object, "verify_checksum", false)?;
+    let preserve = switch(object, "preserve_timestamp", false)?;
+    unset(object, "delete_destination_extra")?;
+    let skip_source = switch(object, "skip_source_errors", false)?;
     Ok(Flags {
         verify,
         preserve,
@@ -157,39 +163,14 @@ fn read_flags(object: &Value) -> Result<Flags, Place>
     })
 }
 
-/// The label, if there is one.
-#[tactic(auto, unfolding(crate::specs::Transfer::label_at))]
-fn read_label(alloc: Global, object: &Value) -> Result<Option<Text>, DocumentFault>
-    ensures value { ReadsAs (label_at (view object.now)) result }
-    ensures limits { IfOk result (λ label. if_there is_label label ≡ true) }
-{
-    let bad = Place::OfMember {
-        within: Within::Document,
-        member: Member::Label,
-    };
-    let Some(value) = member(object, Member::Label) else {
-        return Ok(None);
-    };
-    match value.as_str() {
-        Some(text) if is_label(text) => Ok(Some(Text::copy_of(alloc, text)?)),
-        _ => Err(DocumentFault::Bad(bad)),
-    }
-}
-
-/// Tests that there are no filter rules.
+// Tests that there are no filter rules.
 #[tactic(auto, unfolding(crate::specs::Transfer::no_rules_at), using(crate::proofs::CountLemmas::count_view))]
 fn no_rules(object: &Value) -> Result<(), Place>
     ensures { result ≡ no_rules_at (view object.now) }
 {
-    let Some(value) = member(object, Member::FilterRules) else {
-        return Ok(());
-    };
-    match value.as_array() {
+    match list_in(object, "filter_rules") {
         Some(rules) if rules.is_empty() => Ok(()),
-        _ => Err(Place::OfMember {
-            within: Within::Document,
-            member: Member::FilterRules,
-        }),
+        _ => Err(Place::member("filter_rules")),
     }
 }
 
@@ -200,7 +181,9 @@ pub(crate) fn submit_between(
     source: u32,
     destination: u32,
 ) -> Command
-    ensures { result ≡ command.SubmitTransfer submission.ends.submission (spec_of submission source destination) }
+    ensures { result
+        ≡ command.SubmitTransfer submission.ends.submission
+        (spec_of submission source destination) }
 {
     let Submission {
         ends,

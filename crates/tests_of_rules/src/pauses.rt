@@ -43,103 +43,141 @@ fn writes(alloc: Global, collection: u32, identity: Option<Id>) -> Result<PauseS
     })
 }
 
+// The members of a rule, in the order of the acts.
+type Members = (bool, bool, bool, bool, bool);
+
+const MEMBERS: [Members; 6] = [
+    (true, false, false, false, false),
+    (false, true, false, false, false),
+    (false, false, true, false, false),
+    (false, false, false, true, false),
+    (false, false, false, false, true),
+    (false, false, false, false, false),
+];
+
+// A rule of these members for everybody, which is the first.
+fn one_rule(alloc: Global, members: Members) -> Result<Pauses, Fail> {
+    let mut pauses = Pauses::new(alloc);
+    pauses.reserve(1)?;
+    let (transfer_read, transfer_write, delete, ls, mkdir) = members;
+    let spec = PauseSpec {
+        transfer_read,
+        transfer_write,
+        delete,
+        ls,
+        mkdir,
+        rename: true,
+        ..rule(alloc, 0, None)?
+    };
+    pauses.add(spec, 1);
+    Ok(pauses)
+}
+
+// Whether the rule of these members pauses the act of the place, and no other.
+fn pauses_only(alloc: Global, members: Members, place: usize) -> Result<bool, Fail> {
+    let pauses = one_rule(alloc, members)?;
+    for (number, act) in ACTS.into_iter().enumerate() {
+        let want = if number == place { Some(1) } else { None };
+        if pauses.paused_at(2, &ann(), 0, act) != want {
+            return Ok(false);
+        }
+    }
+    Ok(true)
+}
+
 #[test]
 fn each_member_pauses_its_act(rt: HostRuntime) -> Result<(), Fail> {
-    let alloc = rt.alloc();
-    let members = [
-        (true, false, false, false, false),
-        (false, true, false, false, false),
-        (false, false, true, false, false),
-        (false, false, false, true, false),
-        (false, false, false, false, true),
-        (false, false, false, false, false),
-    ];
-    for (place, (transfer_read, transfer_write, delete, ls, mkdir)) in members
-        .into_iter()
-        .enumerate()
-    {
-        let mut pauses = Pauses::new(alloc);
-        pauses.reserve(1)?;
-        let spec = PauseSpec {
-            transfer_read,
-            transfer_write,
-            delete,
-            ls,
-            mkdir,
-            rename: true,
-            ..rule(alloc, 0, None)?
-        };
-        assert_eq!(rt; pauses.add(spec, 1), 1);
-        for (number, act) in ACTS.into_iter().enumerate() {
-            let want = if number == place { Some(1) } else { None };
-            assert_eq!(rt; pauses.paused_at(2, &ann(), 0, act), want, "{act:?}");
-        }
+    for (place, members) in MEMBERS.into_iter().enumerate() {
+        assert!(rt; pauses_only(rt.alloc(), members, place)?);
     }
     Ok(())
 }
 
+// Ends a live rule. Without one nothing is done.
+fn end_live(pauses: &mut Pauses, number: u64, at: u64) {
+    if pauses.live(number).is_some() {
+        pauses.end(number, at);
+    }
+}
+
+// Rules that pause transfers to a collection: the collection, whom, and the event of the making.
+const RULES: [(u32, Option<u8>, u64); 4] = [
+    (2, Some(0xb2), 3),
+    (2, None, 5),
+    (66, None, 6),
+    (2, Some(0xa1), 7),
+];
+
+// Those rules, of which the first has ended at 9 and the second at 11.
+fn four_rules(alloc: Global) -> Result<Pauses, Fail> {
+    let mut pauses = Pauses::new(alloc);
+    for (collection, identity, born) in RULES {
+        let identity = identity.map(|byte| Id::from_bytes([byte; 16]));
+        let spec = writes(alloc, collection, identity)?;
+        pauses.reserve(1)?;
+        pauses.add(spec, born);
+    }
+    end_live(&mut pauses, 1, 9);
+    end_live(&mut pauses, 2, 11);
+    Ok(pauses)
+}
+
+// The event, the identity, the collection, and the rule that pauses.
+const WANTS: [(u64, u8, u32, Option<u64>); 15] = [
+    (3, 0xb2, 2, None),
+    (4, 0xb2, 2, Some(1)),
+    (5, 0xb2, 2, Some(1)),
+    (8, 0xb2, 2, Some(1)),
+    (9, 0xb2, 2, Some(2)),
+    (10, 0xb2, 2, Some(2)),
+    (11, 0xb2, 2, None),
+    (5, 0xa1, 2, None),
+    (6, 0xa1, 2, Some(2)),
+    (8, 0xa1, 2, Some(2)),
+    (11, 0xa1, 2, Some(4)),
+    (6, 0xb2, 66, None),
+    (7, 0xb2, 66, Some(3)),
+    (99, 0xa1, 66, Some(3)),
+    (99, 0xa1, 1, None),
+];
+
 #[test]
 fn pauses_by_event_number(rt: HostRuntime) -> Result<(), Fail> {
-    let alloc = rt.alloc();
-    let mut pauses = Pauses::new(alloc);
-    pauses.reserve(4)?;
-    assert_eq!(rt; pauses.add(writes(alloc, 2, Some(bob()))?, 3), 1);
-    assert_eq!(rt; pauses.add(writes(alloc, 2, None)?, 5), 2);
-    assert_eq!(rt; pauses.add(writes(alloc, 66, None)?, 6), 3);
-    assert_eq!(rt; pauses.add(writes(alloc, 2, Some(ann()))?, 7), 4);
-    assert!(rt; pauses.live(1).is_some());
-    pauses.end(1, 9);
-    pauses.end(2, 11);
-
-    let wants = [
-        (3, bob(), 2, None),
-        (4, bob(), 2, Some(1)),
-        (5, bob(), 2, Some(1)),
-        (8, bob(), 2, Some(1)),
-        (9, bob(), 2, Some(2)),
-        (10, bob(), 2, Some(2)),
-        (11, bob(), 2, None),
-        (5, ann(), 2, None),
-        (6, ann(), 2, Some(2)),
-        (8, ann(), 2, Some(2)),
-        (11, ann(), 2, Some(4)),
-        (6, bob(), 66, None),
-        (7, bob(), 66, Some(3)),
-        (99, ann(), 66, Some(3)),
-        (99, ann(), 1, None),
-    ];
-    for (seq, identity, collection, want) in wants {
-        let paused = pauses.paused_at(seq, &identity, collection, PauseAct::TransferWrite);
-        assert_eq!(rt; paused, want, "{seq} {collection}");
-        let other = pauses.paused_at(seq, &identity, collection, PauseAct::TransferRead);
-        assert_eq!(rt; other, None, "{seq} {collection}");
+    let pauses = four_rules(rt.alloc())?;
+    for (seq, byte, collection, want) in WANTS {
+        let identity = Id::from_bytes([byte; 16]);
+        let paused = |act| pauses.paused_at(seq, &identity, collection, act);
+        assert!(rt; paused(PauseAct::TransferWrite) == want);
+        assert!(rt; paused(PauseAct::TransferRead).is_none());
     }
     Ok(())
+}
+
+// Whether the rule of the number is live.
+fn is_live(pauses: &Pauses, number: u64) -> bool {
+    pauses.live(number).is_some()
 }
 
 #[test]
 fn rules_by_number(rt: HostRuntime) -> Result<(), Fail> {
-    let alloc = rt.alloc();
-    let mut pauses = Pauses::new(alloc);
-    pauses.reserve(2)?;
-    pauses.add(rule(alloc, 0, None)?, 1);
-    pauses.add(rule(alloc, 1, None)?, 2);
-    assert!(rt; pauses.live(1).is_some());
-    pauses.end(1, 3);
-    assert!(rt; pauses.live(0).is_none());
-    assert!(rt; pauses.live(1).is_none());
-    assert!(rt; pauses.live(3).is_none());
-    match pauses.live(2) {
-        Some(row) => {
-            assert_eq!(rt; row.number, 2);
-            assert_eq!(rt; row.spec.collection, 1);
-            assert_eq!(rt; row.spec.message.as_str(), "closed");
-        }
-        None => assert!(rt; false),
+    let pauses = four_rules(rt.alloc())?;
+    for (number, want) in [
+        (0, false),
+        (1, false),
+        (2, false),
+        (3, true),
+        (4, true),
+        (5, false),
+    ] {
+        assert!(rt; is_live(&pauses, number) == want);
     }
-    assert_eq!(rt; pauses.rows().len(), 2);
-    assert_eq!(rt; pauses.rows()[0].ended, Some(3));
-    assert_eq!(rt; pauses.rows()[1].ended, None);
+    if let Some(row) = pauses.live(3) {
+        assert!(rt; row.number == 3 && row.spec.collection == 66);
+        assert!(rt; row.spec.message.as_str() == "closed");
+    }
+    let rows = pauses.rows();
+    assert!(rt; rows.len() == 4);
+    assert!(rt; rows[0].ended == Some(9) && rows[3].ended.is_none());
     Ok(())
 }
 
@@ -158,13 +196,6 @@ fn rule_of_turn(alloc: Global, turn: u32) -> Result<PauseSpec, Fail> {
         mkdir: turn % 13 == 0,
         ..rule(alloc, turn % 4, identity)?
     })
-}
-
-// Ends a live rule. Without one nothing is done.
-fn end_live(pauses: &mut Pauses, number: u64, at: u64) {
-    if pauses.live(number).is_some() {
-        pauses.end(number, at);
-    }
 }
 
 // Adds the rule of the turn at the event 2 * turn + 1, and mostly ends it at the next.
@@ -249,6 +280,6 @@ fn other_places(alloc: Global, turns: u32) -> Result<[Option<(u64, u32)>; 3], Fa
 
 #[test]
 fn pauses_of_many_rows_are_those_of_a_walk(rt: HostRuntime) -> Result<(), Fail> {
-    assert_eq!(rt; other_places(rt.alloc(), 3_000)?, [None, None, None]);
+    assert!(rt; other_places(rt.alloc(), 3_000)? == [None, None, None]);
     Ok(())
 }

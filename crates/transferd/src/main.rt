@@ -6,6 +6,8 @@
 #![tactic(auto)]
 
 mod exit;
+#[cfg(test)]
+mod file_tests;
 mod laws;
 mod line;
 mod output;

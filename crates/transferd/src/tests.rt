@@ -40,14 +40,14 @@ home = \"/\"
 ";
 
 // The document of 280 bytes, and its submission by each identity.
-const DOCUMENT: &str =
+pub(crate) const DOCUMENT: &str =
     "{\"DATA\":[{\"DATA_TYPE\":\"transfer_item\",\"destination_path\":\"/e\",\"source_path\":\"/e\"}],\"DATA_TYPE\":\"transfer\",\"destination_endpoint\":\"00000000-0000-4000-8000-0000000000c1\",\"source_endpoint\":\"00000000-0000-4000-8000-0000000000c0\",\"submission_id\":\"00000007-0001-8000-8000-000000000001\"}";
 
-const ANN: &str = "send abc POST /v0.10/transfer 280\n";
+pub(crate) const ANN: &str = "send abc POST /v0.10/transfer 280\n";
 
 const BOB: &str = "send hello POST /v0.10/transfer 280\n";
 
-const ACCEPTED: &str = "reply 202 188
+pub(crate) const ACCEPTED: &str = "reply 202 188
 {\"DATA_TYPE\":\"transfer_result\",\"code\":\"Accepted\",\"message\":\"The task was accepted.\",\"submission_id\":\"00000007-0001-8000-8000-000000000001\",\"task_id\":\"00000007-0002-8000-8000-000000000001\"}
 ";
 
@@ -55,7 +55,7 @@ const ACCEPTED_SECOND: &str = "reply 202 188
 {\"DATA_TYPE\":\"transfer_result\",\"code\":\"Accepted\",\"message\":\"The task was accepted.\",\"submission_id\":\"00000007-0001-8000-8000-000000000001\",\"task_id\":\"00000007-0002-8000-8000-000000000002\"}
 ";
 
-const DUPLICATE: &str = "reply 200 203
+pub(crate) const DUPLICATE: &str = "reply 200 203
 {\"DATA_TYPE\":\"transfer_result\",\"code\":\"Duplicate\",\"message\":\"This submission was accepted before.\",\"submission_id\":\"00000007-0001-8000-8000-000000000001\",\"task_id\":\"00000007-0002-8000-8000-000000000001\"}
 ";
 
@@ -71,7 +71,7 @@ const FAILED: &str = "reply 503 75
 {\"DATA_TYPE\":\"error\",\"code\":\"JournalFault\",\"message\":\"The journal failed.\"}
 ";
 
-const ONE_TASK: &str = "end 1 1\ntask 1 TRANSFER ACTIVE 1 1 0 0 0 0 0 0 0 0\n";
+pub(crate) const ONE_TASK: &str = "end 1 1\ntask 1 TRANSFER ACTIVE 1 1 0 0 0 0 0 0 0 0\n";
 
 const ISSUE: &str = "send abc GET /v0.10/submission_id 0\n\n";
 
@@ -83,7 +83,7 @@ const JOURNAL: &[u8; 35] = b"\x01\0\0\0\0\0\0\0\x19\
     \0";
 
 // One text after another.
-fn joined(alloc: Global, texts: &[&str]) -> Result<Vec<u8>, AllocError> {
+pub(crate) fn joined(alloc: Global, texts: &[&str]) -> Result<Vec<u8>, AllocError> {
     let mut bytes = Vec::new(alloc);
     for text in texts {
         bytes.extend_from_slice(text.as_bytes())?;
@@ -119,11 +119,11 @@ fn contents<D: Disk>(alloc: Global, disk: &mut D) -> Result<Vec<u8>, Fail> {
 }
 
 // A run of a script on a disk.
-fn run_on(
+pub(crate) fn run_on<D: Disk>(
     alloc: Global,
     setup: &[u8],
     script: &[u8],
-    disk: &mut MemDisk,
+    disk: &mut D,
 ) -> Result<(Exit, MemSink), Fail> {
     let words = words(alloc, &["script", "setup"])?;
     let mut setup = source(alloc, setup, 1000, &[])?;

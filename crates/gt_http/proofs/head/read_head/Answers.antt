@@ -8,7 +8,7 @@ use Rattle.gt_http.specs.declared.place.Place.{Place}
 use Rattle.gt_http.specs.declared.place.Place.TheVariants.{Blank}
 use Rattle.gt_streams.specs.Streams.{IsSameSource}
 use Rattle.httparse.specs.Grammar.{HasNoRequest, MayBecomeRequest}
-use Rattle.httparse.specs.Spans.{IsRequestOf, IsRequestWithin, RequestOverflows}
+use Rattle.httparse.specs.Spans.{IsRequestOf, IsRequestWithin, RequestExceeds, RequestOverflows}
 use Rattle.std.proofs.Common.{IsTrue, List, [], ap, arith, false, inl, inr, length, length-append, refl, rules, subst, sym, ℕ, ◌++◌, ◌<◌, ◌∙◌, ◌∷◌, ◌≡◌, ◌≤◌}
 use Rattle.std.proofs.lemmas.List.{nil_from_length}
 
@@ -60,6 +60,7 @@ returns-in-End-clause-told g c told =
     let now = subst IsTrue (sym c.head.invariant.same.told) told in
     let after = (c.in-End.ensures.told now).1 in
     let more = subst (λ (s : List ℕ). MayBecomeRequest s) c.as_slice-taken.ensures.value (c.is_open.ensures.ok c.if-not-is_open.false) in
+    let few = subst (λ (s : List ℕ). ¬ (RequestExceeds 64 s)) c.as_slice-taken.ensures.value (c.is_open.ensures.few c.if-not-is_open.false) in
     let short : length c.head.bytes.items < most_head_bytes = search rules in
     let some : 0 < length c.head.bytes.items = search rules in
     record {
@@ -74,6 +75,7 @@ returns-in-End-clause-told g c told =
           short = search rules;
           none = c.head.invariant.none;
           open_end = more;
+          few = few;
         }),
       );
     }

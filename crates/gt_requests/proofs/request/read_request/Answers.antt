@@ -1,12 +1,9 @@
-use Rattle.std.proofs.Common.{◌≡◌, Err}
-use Rattle.gt_requests.specs.Request.{request_of}
-use Rattle.gt_requests.specs.declared.fault.RequestFault.TheVariants as request
-use Rattle.gt_requests.proofs.ToldLemmas.{told_fault, told_memory}
+use Rattle.std.proofs.Common.{Err, ap, inr, sym, ◌∙◌}
+use Rattle.std.specs.Prelude.{option_copied}
+use Rattle.gt_requests.proofs.ToldLemmas.{long_body}
 use Rattle.gt_requests.proofs.request.read_request.Goals as goal
 
-pub returns-in-Err-clause-fault : goal.returns-in-Err-clause-fault
-unfolding request_of
-returns-in-Err-clause-fault c = told_fault _ c.in-Err.fault c.told.result c.in-Err.ensures.value c.told.ensures
-
-pub returns-in-Err-clause-memory : goal.returns-in-Err-clause-memory
-returns-in-Err-clause-memory c = λ e. told_memory c.in-Err.fault c.told.result _ c.told.ensures c.in-Err.ensures.memory (cc e)
+pub returns-in-Err-2-clause-fault : goal.returns-in-Err-2-clause-fault
+returns-in-Err-2-clause-fault c =
+    let given = c.args in
+    inr (long_body given.setup.now given.method.now given.target.now (option_copied given.token) given.body.now c.if-body-le-MAX_BODY.false ∙ ap Err (sym c.told.ensures))
