@@ -1,5 +1,5 @@
 -- Replaying body by body, and where it stops.
-use Rattle.std.proofs.Common.{◌≡◌, ℕ, inr, ◌<◌, ◌+◌, List, [], ◌∷◌, ◌++◌, Some, Vec, Global, length, take, drop, get_or, sym, ap, subst, ◌∙◌, append_assoc, take-append-drop, length-take, arith}
+use Rattle.std.proofs.Common.{◌≡◌, ℕ, inl, inr, ◌<◌, ◌+◌, List, [], ◌∷◌, ◌++◌, Some, Vec, Global, length, take, drop, get_or, sym, ap, subst, ◌∙◌, append_assoc, take-append-drop, length-take, arith}
 use Rattle.std.proofs.lemmas.List.{get_or-map, length-map, take_more}
 use Rattle.gt_desk.specs.Damage.{HasRecords, IsBadBody, IsDamagedAs, IsDamagedAt, IsTextOf}
 use Rattle.gt_desk.specs.Desk.{events_of}
@@ -7,6 +7,7 @@ use Rattle.gt_desk.specs.Replay.{IsBadAs, IsBadAt, Replays}
 use Rattle.gt_desk.specs.declared.fault.OpenFault.{OpenFault}
 use Rattle.gt_desk.specs.declared.fault.OpenFault.TheVariants.{Damaged, JournalFault, OutOfMemory}
 use Rattle.gt_desk.proofs.Histories.{events_more, run_more, texts_more}
+use Rattle.gt_journal.specs.JournalText.{IsDamagedAfter}
 use Rattle.gt_journal.specs.Reading.{lists}
 use Rattle.gt_machine.specs.MachineState.{MachineState}
 use Rattle.gt_machine.specs.Run.{run_of}
@@ -73,3 +74,14 @@ pub damaged_as : (setup : Setup) (bodies : List (List ℕ)) (file : List ℕ) (f
 damaged_as setup bodies file JournalFault bad records = tt
 damaged_as setup bodies file (Damaged number) bad records = damaged_bad setup number bodies file bad records
 damaged_as setup bodies file OutOfMemory bad records = tt
+
+-- a file whose records all replay, and behind which one runs past the end, is damaged behind them
+pub damaged_after : (setup : Setup) (n : ℕ) (bodies : List (List ℕ)) (m : MachineState) (file : List ℕ) → Replays setup bodies m → n ≡ length bodies
+    → IsDamagedAfter bodies file → IsDamagedAt setup n file
+damaged_after setup n bodies m file replays number cut = record {
+  history = events_of bodies;
+  before = many_events setup bodies m replays ∙ sym number;
+  machine = m;
+  runs = replays.runs;
+  at = inl (subst (λ bs. IsDamagedAfter bs file) replays.texts cut);
+}
