@@ -117,13 +117,16 @@ fn changed(alloc: Global, changes: &[Change]) -> Result<Rules, Fail> {
     Ok(rules)
 }
 
-/// A caller in the group, the event, the collection and the path.
-type Question = (Id, u64, u32, &'static str);
-
-// What the caller may do behind these changes. The collection is bob's.
-fn right_behind(alloc: Global, changes: &[Change], asked: Question) -> Result<Right, Fail> {
+// What a caller in the group may do at an event with a path of a collection behind these changes. The collection is bob's.
+fn right_behind(
+    alloc: Global,
+    changes: &[Change],
+    identity: Id,
+    seq: u64,
+    collection: u32,
+    text: &str,
+) -> Result<Right, Fail> {
     let rules = changed(alloc, changes)?;
-    let (identity, seq, collection, text) = asked;
     let who = member(alloc, identity)?;
     Ok(rules.right_at(seq, &who, collection, &bob(), &path(alloc, text)?))
 }
@@ -152,26 +155,31 @@ const NESTED: [Change; 3] = [
     Change::End(2, 3),
 ];
 
+// Who asks, by the byte of which the identity is made, at which event, for which path of the collection 2, and the right.
+const NESTED_RIGHTS: [(u8, u64, &str, Right); 8] = [
+    (0xa1, 3, "/p/q/f", Right::Read),
+    (0xa1, 3, "/p/f", Right::Write),
+    (0xa1, 3, "/z", Right::Nothing),
+    (0xa1, 2, "/p/q/f", Right::Write),
+    (0xa1, 1, "/p/f", Right::Nothing),
+    // The owner.
+    (0xb2, 1, "/", Right::Write),
+    (0xb2, 1, "/p/q/f", Right::Write),
+    (0xb2, 1, "/z", Right::Write),
+];
+
 #[test]
 fn rights_by_event_number(rt: HostRuntime) -> Result<(), Fail> {
     let alloc = rt.alloc();
-    for (asked, right) in [
-        ((ann(), 3, 2, "/p/q/f"), Right::Read),
-        ((ann(), 3, 2, "/p/f"), Right::Write),
-        ((ann(), 3, 2, "/z"), Right::Nothing),
-        ((ann(), 2, 2, "/p/q/f"), Right::Write),
-        ((ann(), 1, 2, "/p/f"), Right::Nothing),
-        // Another collection.
-        ((ann(), 3, 66, "/p/f"), Right::Nothing),
-        // The owner.
-        ((bob(), 1, 2, "/"), Right::Write),
-        ((bob(), 1, 2, "/p/q/f"), Right::Write),
-        ((bob(), 1, 2, "/z"), Right::Write),
-    ] {
-        assert!(rt; right_behind(alloc, &NESTED[..2], asked)? == right);
+    for (byte, seq, text, right) in NESTED_RIGHTS {
+        let identity = Id::from_bytes([byte; 16]);
+        assert!(rt; right_behind(alloc, &NESTED[..2], identity, seq, 2, text)? == right);
     }
+    // Another collection.
+    let other = right_behind(alloc, &NESTED[..2], ann(), 3, 66, "/p/f")?;
+    assert!(rt; other == Right::Nothing);
     for seq in [4, 3] {
-        let right = right_behind(alloc, &NESTED, (ann(), seq, 2, "/p/q/f"))?;
+        let right = right_behind(alloc, &NESTED, ann(), seq, 2, "/p/q/f")?;
         assert!(rt; right == Right::Write);
     }
     assert!(rt; has_live(alloc, &NESTED[..2], 2)?);
@@ -189,7 +197,7 @@ fn groups_and_everybody(rt: HostRuntime) -> Result<(), Fail> {
         (Named::Bob, Right::Nothing),
     ] {
         let changes = [Change::Add(0, named, "/", false, 1)];
-        let found = right_behind(rt.alloc(), &changes, (ann(), 2, 0, "/"))?;
+        let found = right_behind(rt.alloc(), &changes, ann(), 2, 0, "/")?;
         assert!(rt; found == right);
     }
     Ok(())
@@ -209,7 +217,7 @@ fn replaced_rule_keeps_its_number(rt: HostRuntime) -> Result<(), Fail> {
         assert!(rt; newest(alloc, &REPLACED[..made])? == rows);
     }
     for (seq, right) in [(3, Right::Write), (2, Right::Nothing)] {
-        let found = right_behind(alloc, &REPLACED[..2], (ann(), seq, 0, "/a"))?;
+        let found = right_behind(alloc, &REPLACED[..2], ann(), seq, 0, "/a")?;
         assert!(rt; found == right);
     }
     assert!(rt; is_live(alloc, &REPLACED[..2], Named::Anybody, "/a")?);
@@ -243,7 +251,7 @@ const RIGHTS: [(usize, u64, Right); 7] = [
 fn rules_of_one_path_that_overlap(rt: HostRuntime) -> Result<(), Fail> {
     for (made, seq, right) in RIGHTS {
         let changes = &OVERLAPPING[..made.min(7)];
-        let found = right_behind(rt.alloc(), changes, (ann(), seq, 0, "/p/f"))?;
+        let found = right_behind(rt.alloc(), changes, ann(), seq, 0, "/p/f")?;
         assert!(rt; found == right);
     }
     assert!(rt; is_live(rt.alloc(), &OVERLAPPING, Named::Ann, "/p")?);
