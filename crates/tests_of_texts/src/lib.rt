@@ -1,4 +1,4 @@
-//! Tests of the texts that are read and written: documents, records and replies.
+//! Tests of the documents that are read and written.
 //!
 //! There is nothing here but tests, each file for the crate that it is named after: a crate's tests are proved with the
 //! crate once more, and those of a crate of tests once.
@@ -6,7 +6,5 @@
 
 #[cfg(test)]
 mod documents;
-#[cfg(test)]
-mod records;
 #[cfg(test)]
 mod replies;

@@ -262,18 +262,19 @@ fn grants_refusals_and_restarts_are_read_and_written(rt: HostRuntime) -> Result<
     is_text(&rt, RESTART, 253_402_300_799, &Happening::Restart)
 }
 
-#[test]
-fn copies_are_read_and_written(rt: HostRuntime) -> Result<(), Fail> {
-    let mut evidence = Evidence {
+fn copied(back: Option<Digest>, checked: u64) -> Outcome {
+    let evidence = Evidence {
         size: 65_536,
         source: source(),
-        back: Some(back()),
+        back,
     };
-    let checked = 131_072;
-    is_report(&rt, COPIED, Outcome::Copied { evidence, checked })?;
-    evidence.back = None;
-    let checked = 0;
-    is_report(&rt, COPIED_UNREAD, Outcome::Copied { evidence, checked })
+    Outcome::Copied { evidence, checked }
+}
+
+#[test]
+fn copies_are_read_and_written(rt: HostRuntime) -> Result<(), Fail> {
+    is_report(&rt, COPIED, copied(Some(back()), 131_072))?;
+    is_report(&rt, COPIED_UNREAD, copied(None, 0))
 }
 
 #[test]
