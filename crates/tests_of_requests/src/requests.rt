@@ -382,16 +382,20 @@ fn desk(alloc: Global) -> Result<Served, Fail> {
 }
 
 // Whether the answer is the one wanted.
-fn is_wanted(answer: Result<(Id, Command), RequestFault>, want: Want) -> bool {
-    match (answer, want) {
-        (Ok((caller, _)), Want::Read) => caller == id(0xa1),
-        (Err(RequestFault::Refused { code, place }), Want::Refused(wanted)) => {
-            code == wanted && place.is_empty()
-        }
-        (Err(RequestFault::Refused { code, place }), Want::Bad(wanted)) => {
-            code == ReplyCode::BadRequest && place.as_str() == wanted
-        }
-        _ => false,
+fn is_wanted(answer: &Result<(Id, Command), RequestFault>, want: Want) -> bool {
+    match answer {
+        Ok((caller, _)) => matches!(want, Want::Read) && *caller == id(0xa1),
+        Err(RequestFault::Refused { code, place }) => is_refusal(*code, place.as_str(), want),
+        Err(_) => false,
+    }
+}
+
+// Whether a refusal with this code at this place is wanted.
+fn is_refusal(code: ReplyCode, place: &str, want: Want) -> bool {
+    match want {
+        Want::Read => false,
+        Want::Refused(wanted) => code == wanted && place.is_empty(),
+        Want::Bad(wanted) => code == ReplyCode::BadRequest && place == wanted,
     }
 }
 
@@ -402,7 +406,7 @@ fn is_answered(alloc: Global, desk: &Served, row: Row) -> bool {
     let answer = desk
         .routes
         .read(alloc, &desk.setup, method, target, token, body.as_bytes());
-    is_wanted(answer, want)
+    is_wanted(&answer, want)
 }
 
 // The place of the first row that is answered otherwise.
@@ -422,7 +426,7 @@ fn is_told(alloc: Global, desk: &Served, document: Document, body: &[u8], want: 
     let answer = desk
         .routes
         .read(alloc, &desk.setup, method, target, Some("abc"), body);
-    is_wanted(answer, want)
+    is_wanted(&answer, want)
 }
 
 // The document with these members behind its own, the last of them first.

@@ -16,7 +16,7 @@ use Rattle.transferd.specs.Output.{line_output, out_text}
 use Rattle.transferd.specs.Run.{IsUnended, Makes, Played, ScriptRun, lines_of, steps_of, world_at}
 use Rattle.gt_world.specs.World.{Taken, World, WorldRun, world_after}
 use Rattle.transferd.specs.declared.exit.Exit.{Exit}
-use Rattle.transferd.specs.declared.exit.Exit.TheVariants.{JournalFault, SinkFault}
+use Rattle.transferd.specs.declared.exit.Exit.TheVariants.{JournalFault, SinkFault, SourceFault}
 use Rattle.transferd.specs.declared.session.Ended.{Ended}
 use Rattle.transferd.specs.declared.session.Made.{Made}
 use Rattle.transferd.specs.declared.session.Session.{Session}
@@ -39,15 +39,17 @@ world_of words session history =
       faults = words.faults session.desk.disk;
     }
 
--- a line failed by a fault of the disk only where that was counted, and not by the output
+-- a line failed by a fault of the disk only where that was counted, and not by the output or the script
 pub record HasMakingCause {D : Type 0} (words : DiskWords D) (old : D) (ended : Ended D) : Type 0 where
   pub journal : ended.exit ≡ JournalFault → HasFailed words.faults old ended.disk
   pub no_sink : ended.exit ≢ SinkFault
+  pub no_source : ended.exit ≢ SourceFault
 
--- a line stopped by a fault of a device only where that was counted
+-- a line stopped by a fault of a device only where that was counted, and not by the script
 pub record HasLineCause {D K : Type 0} (words : DiskWords D) (old : D) (sink : SinkWords K) (out new_out : K) (ended : Ended D) : Type 0 where
   pub journal : ended.exit ≡ JournalFault → HasFailed words.faults old ended.disk
   pub output : ended.exit ≡ SinkFault → HasFailed sink.faults out new_out
+  pub no_source : ended.exit ≢ SourceFault
 
 module _ {D : Type 0} (words : DiskWords D) (honest : Bool) where
   -- the session is that of the world: its history leads to the machine's state, and is the desk's where the disk is honest

@@ -5,6 +5,7 @@ use Rattle.gt_script.specs.declared.line.Line.TheVariants.{End}
 use Rattle.gt_script.specs.declared.line.ScriptFault.TheVariants.{Refused}
 use Rattle.gt_setup.specs.Setup.{Setup}
 use Rattle.std.proofs.Common.{IsTrue, List, [], arith, refl, subst, ◌++◌, ◌+◌, ◌∙◌, ◌≡◌, ◌≢◌, ◌≤◌, ℕ}
+use Rattle.transferd.proofs.CalmLemmas.{rose_within}
 use Rattle.transferd.proofs.EndingLemmas.{begun, carried, done, more, not_read, refuses, stopped}
 use Rattle.transferd.proofs.script.run_script.Goals as goal
 use Rattle.transferd.specs.Endings.{Stream, read_from, written_to}
@@ -65,6 +66,20 @@ returns-in-Err-run_line-clause-ran g c history runs same =
     (λ h s told. (world : World) → IsPresent w h s world l.session → StoppedLine w h ended.exit s line world l.session.desk.disk ended.disk (record { told = told; before = out.after; after = written }))
     (w.honest l.session.desk.disk) honest l.session.desk.setup setup (g.K.Sink.words.told l.out) out.told l.invariant.disk.honest l.invariant.setup l.invariant.sink.told c.in-Err-run_line.ensures.carried in
     stopped w honest setup start first.disk l.ran l.session l.taken script out so_far after line through begins written ended.exit ended.disk (stop (world_at start so_far.run) so_far.leads)
+
+-- no line is stopped by the script, and a count that rose in it rose since the first line
+pub returns-in-Err-run_line-clause-causes : goal.returns-in-Err-run_line-clause-causes
+returns-in-Err-run_line-clause-causes g c =
+    let d = g.D.Disk.words in
+    let k = g.K.Sink.words in
+    let l = c.loop-taken in
+    let ended = c.in-Err-run_line.stopped in
+    let cause = c.in-Err-run_line.ensures.cause in
+    record {
+      source = λ is. absurd (cause.no_source is);
+      sink = λ is. rose_within (k.faults c.args.out.now) (k.faults l.out) (k.faults c.run_line.new.out) (k.faults c.run_line.new.out) l.invariant.sink.later (omega arith) (cause.output is);
+      journal = λ is. rose_within (d.faults c.args.desk.disk) (d.faults l.session.desk.disk) (d.faults ended.disk) (d.faults ended.disk) l.invariant.disk.later (omega arith) (cause.journal is);
+    }
 
 pub returns-then-is_last-clause-ran : goal.returns-then-is_last-clause-ran
 returns-then-is_last-clause-ran g c history runs same =
