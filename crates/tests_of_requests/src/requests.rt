@@ -630,7 +630,7 @@ fn count_at_home(alloc: Global, entries: &[TransferEntry]) -> Result<usize, Fail
     Ok(count)
 }
 
-fn sent_of(alloc: Global, submission: Id, spec: &TransferSpec) -> Result<Sent, Fail> {
+fn sent_of(alloc: Global, submission: &Id, spec: &TransferSpec) -> Result<Sent, Fail> {
     let is_first = match &spec.label {
         Some(label) => label.as_str() == "first",
         None => false,
@@ -639,7 +639,7 @@ fn sent_of(alloc: Global, submission: Id, spec: &TransferSpec) -> Result<Sent, F
     Ok(Sent {
         source: spec.source,
         destination: spec.destination,
-        is_made: submission == Id::made(7, 1, 1),
+        is_made: *submission == Id::made(7, 1, 1),
         is_first,
         verify: spec.verify,
         preserve: spec.preserve,
@@ -654,9 +654,10 @@ fn sent_of(alloc: Global, submission: Id, spec: &TransferSpec) -> Result<Sent, F
 // What a transfer with these members asks.
 fn sent_by(alloc: Global, members: &str) -> Result<Option<Sent>, Fail> {
     let body = transfer(alloc, members, "")?;
-    match command(alloc, "POST", TRANSFERS, body.as_str())? {
+    let command = command(alloc, "POST", TRANSFERS, body.as_str())?;
+    match &command {
         Some(Command::SubmitTransfer { submission, spec }) => {
-            Ok(Some(sent_of(alloc, submission, &spec)?))
+            Ok(Some(sent_of(alloc, submission, spec)?))
         }
         _ => Ok(None),
     }
