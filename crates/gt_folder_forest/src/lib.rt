@@ -1,8 +1,7 @@
 //! Folders of the system as a forest: `DirForest`, over any `Folders`.
 //!
 //! It tells nothing of what it holds: of each call it is proved that it fails only where it counts a fault, and what it may
-//! answer (`specs/Forest.antt`). What only the system can show is tested: that no link leads out of a collection, and that
-//! what a call answers to have done is on the disk.
+//! answer (`specs/Forest.antt`).
 #![tactic(auto)]
 
 mod changing;
