@@ -1,14 +1,13 @@
 // The names in a folder, and pages of its entries.
 ghost use Rattle.std.specs.Option.{option_copied};
-ghost use Rattle.std.specs.Range.Bound.{bound_map};
 ghost use Rattle.std.specs.Prelude.{[], IfOk, OnOk, ◌++◌, ◌∷◌, ◌≡◌, ◌⊎◌};
 ghost use Rattle.gt_forest.specs.Listing.{IsInOrder, names_of};
-ghost use Rattle.gt_forest.specs.Rows.{start_of};
 
 use crate::trail::Trail;
 use crate::trees::{Home, Trees, is_staging, place_of};
 use crate::trouble::{Trouble, is_code};
 use gt_folders::{EntryName, Folders, SightKind};
+use gt_forest::start_of;
 use gt_paths::{Name, NameFault, Path};
 use gt_types::{Entry, Kind};
 use std::alloc::{AllocError, Global};
@@ -167,16 +166,6 @@ fn add_name(
         }
         Err(NameFault::Refused) => Ok(()),
         Err(NameFault::OutOfMemory) => Err(Trouble::OutOfMemory),
-    }
-}
-
-// Where the names after this one begin.
-fn start_of<'a>(after: Option<&'a Name>) -> Bound<&'a Name>
-    ensures { bound_map (λ name. name.now) result ≡ start_of (option_copied after.entry) }
-{
-    match after {
-        Some(name) => Bound::Excluded(name),
-        None => Bound::Unbounded,
     }
 }
 

@@ -20,4 +20,5 @@ mod tree;
 pub use fault::TreeFault;
 pub use forest::Forest;
 pub use laws::{calls_keep_trees, trees_decide_answers};
+pub use look::start_of;
 pub use mem::MemForest;

@@ -10,8 +10,8 @@ use gt_types::Entry;
 use std::alloc::{AllocError, Global};
 use std::ops::Bound;
 
-/// Where the names after this one begin.
-fn start_of<'a>(after: Option<&'a Name>) -> Bound<&'a Name>
+/// Where the names after this one begin, in an ordered map of names.
+pub fn start_of<'a>(after: Option<&'a Name>) -> Bound<&'a Name>
     ensures { bound_map (λ name. name.now) result ≡ start_of (option_copied after.entry) }
 {
     match after {
