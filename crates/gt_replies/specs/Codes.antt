@@ -1,11 +1,9 @@
--- The codes and messages of results and refusals, and the words for the states of a task.
+-- The codes and messages of results and refusals, and why a task closed.
 use Rattle.gt_types.specs.declared.code.Code.{Code}
 use Rattle.gt_types.specs.declared.code.Code.TheVariants.{FileNotFound, FolderTooLarge, ItemLimit, NotEmpty, PathTooLong, TreeFault, VerifyMismatch, WrongKind}
 use Rattle.gt_types.specs.declared.code.Code.TheVariants as item
 use Rattle.gt_types.specs.declared.code.Reason.{Reason}
 use Rattle.gt_types.specs.declared.code.Reason.TheVariants as closing
-use Rattle.gt_types.specs.declared.code.Status.{Status}
-use Rattle.gt_types.specs.declared.code.Status.TheVariants.{Active, Failed, Succeeded}
 use Rattle.gt_types.specs.declared.reply.ReplyCode.{ReplyCode}
 use Rattle.gt_types.specs.declared.reply.ReplyCode.TheVariants.{AuthenticationFailed, BadRequest, EndpointNotFound, Exists, JournalFault, LimitReached, MethodNotAllowed, NotFound, OutOfMemory, PermissionDenied, RuleNotFound, TaskClosed, TaskNotFound, TooLarge}
 use Rattle.gt_types.specs.declared.reply.ResultCode.{ResultCode}
@@ -79,9 +77,3 @@ abbrev pub reason_name : Reason → List ℕ
 reason_name closing.Canceled = codes "CANCELED"
 reason_name closing.Deadline = codes "DEADLINE"
 reason_name (closing.Code code) = item_code code
-
--- the state of a task
-abbrev pub status_name : Status → List ℕ
-status_name Active = codes "ACTIVE"
-status_name Succeeded = codes "SUCCEEDED"
-status_name Failed = codes "FAILED"

@@ -1,6 +1,7 @@
 -- The documents that are written, but for that of a task: a line for each member.
 use Rattle.gt_replies.specs.Codes.{item_code, refusal_code, refusal_message, result_code, result_message}
 use Rattle.gt_replies.specs.Members.{array_of, folder_text, id_value, made_value, object_of, path_value, whole}
+use Rattle.gt_replies.specs.Words.{permissions_text, principal_type}
 use Rattle.gt_setup.specs.Setup.{Setup, home_of, id_of, name_of, owner_of}
 use Rattle.gt_types.specs.declared.reply.AccessDocument.{AccessDocument}
 use Rattle.gt_types.specs.declared.reply.Page.{Page}
@@ -93,23 +94,12 @@ skipped_document row = object_of (
     ∷ (codes "error_code", string (item_code row.code))
     ∷ (codes "source_path", path_value row.source) ∷ [])
 
--- the type of a principal
-abbrev pub principal_type : Principal → List ℕ
-principal_type (Identity id) = codes "identity"
-principal_type (Group id) = codes "group"
-principal_type AllAuthenticated = codes "all_authenticated_users"
-principal_type Anonymous = codes "anonymous"
-
 -- the identifier of a principal that has one, and otherwise no text
 abbrev pub principal_text : Principal → List ℕ
 principal_text (Identity id) = printed_id id
 principal_text (Group id) = printed_id id
 principal_text AllAuthenticated = []
 principal_text Anonymous = []
-
--- to read, or to read and write
-abbrev pub permissions_text : Bool → List ℕ
-permissions_text write = if write then codes "rw" else codes "r"
 
 -- an access rule
 abbrev pub access_document : ℕ → AccessDocument → Data

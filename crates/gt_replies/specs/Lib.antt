@@ -5,3 +5,4 @@ pub mod Order
 pub mod ReplyText
 pub mod Spelled
 pub mod TaskDocument
+pub mod Words

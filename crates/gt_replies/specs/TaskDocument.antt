@@ -1,7 +1,8 @@
 -- The document of a task: what all have, what a transfer or a deletion has besides, and the kept members that were given.
-use Rattle.gt_replies.specs.Codes.{reason_name, status_name}
+use Rattle.gt_replies.specs.Codes.{reason_name}
 use Rattle.gt_replies.specs.Documents.{task_kind}
 use Rattle.gt_replies.specs.Members.{Member, id_value, made_value, moment_value, object_of, or_null, whole}
+use Rattle.gt_replies.specs.Words.{status_name, type_name}
 use Rattle.gt_setup.specs.Setup.{Setup, id_of}
 use Rattle.gt_types.specs.Kept.{flag_of, kept_members, name_of}
 use Rattle.gt_types.specs.declared.code.Reason.{Reason}
@@ -16,7 +17,7 @@ use Rattle.gt_types.specs.declared.options.TransferOptions.{TransferOptions}
 use Rattle.serde_json.specs.Data.{Data, boolean, null, string}
 use Rattle.std.specs.List.{flat_map}
 use Rattle.std.specs.Option.{option_map_or}
-use Rattle.std.specs.Prelude.{List, Option, [], codes, ℕ, ◌++◌, ◌∷◌}
+use Rattle.std.specs.Prelude.{Bool, List, Option, [], codes, false, true, ℕ, ◌++◌, ◌∷◌}
 
 -- how many items the task has, and how many in each class
 abbrev pub subtask_members : Counters → List Member
@@ -41,10 +42,10 @@ work_members counters =
     ∷ (codes "bytes_checksummed", whole counters.bytes_checksummed)
     ∷ (codes "faults", whole counters.faults) ∷ []
 
--- what the task is
-abbrev pub type_name : TaskOptions → List ℕ
-type_name (OfTransfer options) = codes "TRANSFER"
-type_name (OfDelete options) = codes "DELETE"
+-- whether it is a deletion
+abbrev pub is_deletion : TaskOptions → Bool
+is_deletion (OfTransfer options) = false
+is_deletion (OfDelete options) = true
 
 -- where it reads: a deletion's collection stands here
 abbrev pub source_value : Setup → TaskOptions → Data
@@ -61,7 +62,7 @@ abbrev pub identity_members : Setup → TaskDocument → List Member
 identity_members setup task =
     (codes "DATA_TYPE", string (codes "task"))
     ∷ (codes "task_id", made_value setup.namespace task_kind task.number)
-    ∷ (codes "type", string (type_name task.options))
+    ∷ (codes "type", string (type_name (is_deletion task.options)))
     ∷ (codes "owner_id", id_value task.owner)
     ∷ (codes "source_endpoint_id", source_value setup task.options)
     ∷ (codes "destination_endpoint_id", destination_value setup task.options) ∷ []

@@ -1,7 +1,7 @@
 ghost use Rattle.gt_replies.specs.Codes as spec;
 ghost use Rattle.std.specs.Prelude.{◌≡◌, IfOk, string_bytes};
 
-use gt_types::{Code, Reason, ReplyCode, ResultCode, Status};
+use gt_types::{Code, Reason, ReplyCode, ResultCode};
 use std::alloc::{AllocError, Global};
 
 /// The code of a refusal.
@@ -103,16 +103,5 @@ pub(crate) fn reason_name(reason: Reason) -> &'static str
         Reason::Canceled => "CANCELED",
         Reason::Deadline => "DEADLINE",
         Reason::Code(code) => item_code(code),
-    }
-}
-
-/// The state of a task.
-pub(crate) fn status_name(status: Status) -> &'static str
-    ensures { result.now ≡ spec.status_name status }
-{
-    match status {
-        Status::Active => "ACTIVE",
-        Status::Succeeded => "SUCCEEDED",
-        Status::Failed => "FAILED",
     }
 }

@@ -11,7 +11,10 @@ mod list;
 mod member;
 mod reply;
 mod rule;
+mod state;
 mod task;
+mod words;
 
 pub use laws::{documents_are_spelled, members_ascend, statuses_have_three_digits};
 pub use reply::{write_refusal, write_reply};
+pub use words::{permissions_text, principal_type, status_name, type_name};

@@ -1,14 +1,14 @@
-ghost use Rattle.gt_replies.specs.Members.{folder_text, id_value, made_value, moment_value, or_null, path_value};
+ghost use Rattle.gt_replies.specs.Members.{folder_text, id_value, made_value, moment_value, or_null, path_value, whole};
 ghost use Rattle.gt_types.specs.Reply.{is_number};
-ghost use Rattle.serde_json.specs.Data.{string};
-ghost use Rattle.serde_json.specs.View.{view};
+ghost use Rattle.serde_json.specs.Data.{boolean, put, string};
+ghost use Rattle.serde_json.specs.View.{members_view, view};
 ghost use Rattle.serde_json.specs.Written.{compact_text, has_float};
-ghost use Rattle.std.specs.Prelude.{◌≡◌, IfOk, IsTrue, false, string_bytes};
+ghost use Rattle.std.specs.Prelude.{◌≡◌, IfOk, IsTrue, OnOk, false, string_bytes};
 
 use gt_paths::Path;
 use gt_setup::Setup;
 use gt_values::{Id, Moment, Text};
-use serde_json::Value;
+use serde_json::{Map, Value};
 use std::alloc::{AllocError, Global};
 
 /// What the numbers are counted of: the kinds of identifiers that a desk makes.
@@ -89,4 +89,59 @@ pub(crate) fn text_of(alloc: Global, value: &Value) -> Result<Vec<u8>, AllocErro
     ensures { IfOk result (λ text. text.items ≡ compact_text (view value.now)) }
 {
     value.to_vec(alloc)
+}
+
+pub(crate) type Members = Map<String, Value>;
+
+/// A member put at its place in the order of names.
+pub(crate) fn put_value(
+    members: &mut Members,
+    alloc: Global,
+    name: &str,
+    value: Value,
+) -> Result<(), AllocError>
+    ensures { OnOk result (members_view members.new.entries
+        ≡ put name.now (view value) (members_view members.old.entries)) }
+{
+    serde_json::put(members, alloc, name, value)
+}
+
+/// A member that is a whole number.
+pub(crate) fn put_number(
+    members: &mut Members,
+    alloc: Global,
+    name: &str,
+    number: u64,
+) -> Result<(), AllocError>
+    ensures { OnOk result (members_view members.new.entries
+        ≡ put name.now (whole number) (members_view members.old.entries)) }
+{
+    serde_json::put(members, alloc, name, Value::from(number))
+}
+
+/// A member that is true or false.
+pub(crate) fn put_flag(
+    members: &mut Members,
+    alloc: Global,
+    name: &str,
+    flag: bool,
+) -> Result<(), AllocError>
+    ensures { OnOk result (members_view members.new.entries
+        ≡ put name.now (boolean flag) (members_view members.old.entries)) }
+{
+    serde_json::put(members, alloc, name, Value::Bool(flag))
+}
+
+/// A member that is a text.
+pub(crate) fn put_text(
+    members: &mut Members,
+    alloc: Global,
+    name: &str,
+    text: &str,
+) -> Result<(), AllocError>
+    ensures { OnOk result (members_view members.new.entries
+        ≡ put name.now (string text.now) (members_view members.old.entries)) }
+{
+    let value = Value::try_from_str(alloc, text)?;
+    serde_json::put(members, alloc, name, value)
 }

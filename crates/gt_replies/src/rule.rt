@@ -1,7 +1,7 @@
 //! The documents of access rules and of collections.
 #![tactic(auto, unfolding(crate::specs::Members::with_members))]
 
-ghost use Rattle.gt_replies.specs.Documents.{access_document, access_list_document, endpoint_document, permissions_text, principal_text, principal_type};
+ghost use Rattle.gt_replies.specs.Documents.{access_document, access_list_document, endpoint_document, principal_text};
 ghost use Rattle.gt_replies.specs.Members.{array_of};
 ghost use Rattle.gt_types.specs.Reply.{is_number, is_printable_access};
 ghost use Rattle.serde_json.specs.View.{view};
@@ -10,21 +10,11 @@ ghost use Rattle.std.specs.Prelude.{◌≡◌, ◌<◌, IfOk, IsTrue, length, st
 
 use crate::list::{Row, rows_value};
 use crate::member::{ACCESS_RULE, folder_text, id_value, made_value};
+use crate::words::{permissions_text, principal_type};
 use gt_setup::Setup;
 use gt_types::{AccessDocument, Principal};
 use serde_json::{Value, json};
 use std::alloc::{AllocError, Global};
-
-fn principal_type(principal: &Principal) -> &'static str
-    ensures { result.now ≡ principal_type principal.now }
-{
-    match principal {
-        Principal::Identity(_) => "identity",
-        Principal::Group(_) => "group",
-        Principal::AllAuthenticated => "all_authenticated_users",
-        Principal::Anonymous => "anonymous",
-    }
-}
 
 /// The identifier of a principal that has one, and otherwise no text.
 fn principal_text(alloc: Global, principal: &Principal) -> Result<String, AllocError>
@@ -34,12 +24,6 @@ fn principal_text(alloc: Global, principal: &Principal) -> Result<String, AllocE
         Principal::Identity(id) | Principal::Group(id) => id.print(alloc),
         Principal::AllAuthenticated | Principal::Anonymous => Ok(String::new(alloc)),
     }
-}
-
-fn permissions_text(write: bool) -> &'static str
-    ensures { result.now ≡ permissions_text write }
-{
-    if write { "rw" } else { "r" }
 }
 
 /// An access rule.

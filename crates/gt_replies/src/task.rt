@@ -5,117 +5,27 @@ ghost use Rattle.gt_replies.specs.Documents.{page_document};
 ghost use Rattle.gt_replies.specs.Members.{array_of, or_null, whole, with_members};
 ghost use Rattle.gt_replies.specs.TaskDocument as table;
 ghost use Rattle.gt_types.specs.Reply.{are_known, is_printable_task};
-ghost use Rattle.serde_json.specs.Data.{boolean, put, string};
+ghost use Rattle.serde_json.specs.Data.{boolean};
 ghost use Rattle.serde_json.specs.View.{members_view, view};
 ghost use Rattle.std.specs.List.{list_all};
 ghost use Rattle.std.specs.Prelude.{◌≡◌, ◌<◌, IfOk, IsTrue, OnOk, codes, length};
 
-use crate::code::{reason_name, status_name};
 use crate::list::{Row, list};
-use crate::member::{TASK, id_value, made_value, moment_or_null, moment_value, text_or_null};
+use crate::member::{Members, TASK, id_value, made_value, put_flag, put_text, put_value};
+use crate::state::{put_state, put_subtasks, put_times, put_work};
+use crate::words::type_name;
 use gt_setup::Setup;
-use gt_types::{
-    Counters, DeleteOptions, Kept, KeptMember, Page, Reason, TaskDocument, TaskOptions,
-    TransferOptions,
-};
+use gt_types::{DeleteOptions, Kept, KeptMember, Page, TaskDocument, TaskOptions, TransferOptions};
 use gt_values::Sequence;
 use serde_json::{Map, Value};
 use std::alloc::{AllocError, Global};
 
-type Members = Map<String, Value>;
-
-fn put_value(
-    members: &mut Members,
-    alloc: Global,
-    name: &str,
-    value: Value,
-) -> Result<(), AllocError>
-    ensures { OnOk result (members_view members.new.entries
-        ≡ put name.now (view value) (members_view members.old.entries)) }
-{
-    serde_json::put(members, alloc, name, value)
-}
-
-fn put_number(
-    members: &mut Members,
-    alloc: Global,
-    name: &str,
-    number: u64,
-) -> Result<(), AllocError>
-    ensures { OnOk result (members_view members.new.entries
-        ≡ put name.now (whole number) (members_view members.old.entries)) }
-{
-    serde_json::put(members, alloc, name, Value::from(number))
-}
-
-fn put_flag(members: &mut Members, alloc: Global, name: &str, flag: bool) -> Result<(), AllocError>
-    ensures { OnOk result (members_view members.new.entries
-        ≡ put name.now (boolean flag) (members_view members.old.entries)) }
-{
-    serde_json::put(members, alloc, name, Value::Bool(flag))
-}
-
-fn put_text(members: &mut Members, alloc: Global, name: &str, text: &str) -> Result<(), AllocError>
-    ensures { OnOk result (members_view members.new.entries
-        ≡ put name.now (string text.now) (members_view members.old.entries)) }
-{
-    let value = Value::try_from_str(alloc, text)?;
-    serde_json::put(members, alloc, name, value)
-}
-
-fn put_subtasks(members: &mut Members, alloc: Global, counters: &Counters) -> Result<(), AllocError>
-    ensures { OnOk result (members_view members.new.entries
-        ≡ with_members (members_view members.old.entries) (table.subtask_members counters.now)) }
-{
-    put_number(members, alloc, "subtasks_total", counters.total)?;
-    put_number(members, alloc, "subtasks_pending", counters.pending)?;
-    put_number(members, alloc, "subtasks_retrying", counters.retrying)?;
-    put_number(members, alloc, "subtasks_succeeded", counters.succeeded)?;
-    put_number(members, alloc, "subtasks_expired", counters.expired)?;
-    put_number(members, alloc, "subtasks_canceled", counters.canceled)?;
-    put_number(members, alloc, "subtasks_failed", counters.failed)?;
-    put_number(
-        members,
-        alloc,
-        "subtasks_skipped_errors",
-        counters.skipped_errors,
-    )
-}
-
-fn put_work(members: &mut Members, alloc: Global, counters: &Counters) -> Result<(), AllocError>
-    ensures { OnOk result (members_view members.new.entries
-        ≡ with_members (members_view members.old.entries) (table.work_members counters.now)) }
-{
-    put_number(members, alloc, "files", counters.files)?;
-    put_number(members, alloc, "directories", counters.directories)?;
-    put_number(members, alloc, "files_skipped", counters.files_skipped)?;
-    put_number(
-        members,
-        alloc,
-        "files_transferred",
-        counters.files_transferred,
-    )?;
-    put_number(
-        members,
-        alloc,
-        "bytes_transferred",
-        counters.bytes_transferred,
-    )?;
-    put_number(
-        members,
-        alloc,
-        "bytes_checksummed",
-        counters.bytes_checksummed,
-    )?;
-    put_number(members, alloc, "faults", counters.faults)
-}
-
-fn type_name(options: &TaskOptions) -> &'static str
-    ensures { result.now ≡ table.type_name options.now }
+fn is_deletion(options: &TaskOptions) -> bool
+    ensures { result ≡ table.is_deletion options.now }
 {
     match options {
-        TaskOptions::Transfer(_) => "TRANSFER",
-        TaskOptions::Delete(_) => "DELETE",
+        TaskOptions::Transfer(_) => false,
+        TaskOptions::Delete(_) => true,
     }
 }
 
@@ -161,43 +71,15 @@ fn put_identity(
     let destination = destination_value(alloc, setup, &task.options)?;
     put_text(members, alloc, "DATA_TYPE", "task")?;
     put_value(members, alloc, "task_id", id)?;
-    put_text(members, alloc, "type", type_name(&task.options))?;
+    put_text(
+        members,
+        alloc,
+        "type",
+        type_name(is_deletion(&task.options)),
+    )?;
     put_value(members, alloc, "owner_id", owner)?;
     put_value(members, alloc, "source_endpoint_id", source)?;
     put_value(members, alloc, "destination_endpoint_id", destination)
-}
-
-fn reason_value(alloc: Global, reason: Option<Reason>) -> Result<Value, AllocError>
-    ensures { IfOk result (λ value. view value ≡ table.reason_value reason) }
-{
-    match reason {
-        Some(reason) => Value::try_from_str(alloc, reason_name(reason)),
-        None => Ok(Value::Null),
-    }
-}
-
-fn put_state(members: &mut Members, alloc: Global, task: &TaskDocument) -> Result<(), AllocError>
-    ensures { OnOk result (members_view members.new.entries
-        ≡ with_members (members_view members.old.entries) (table.state_members task.now)) }
-{
-    let fatal = reason_value(alloc, task.fatal_error)?;
-    let label = text_or_null(alloc, &task.label)?;
-    put_text(members, alloc, "status", status_name(task.status))?;
-    put_value(members, alloc, "fatal_error", fatal)?;
-    put_flag(members, alloc, "is_paused", task.is_paused)?;
-    put_value(members, alloc, "label", label)
-}
-
-fn put_times(members: &mut Members, alloc: Global, task: &TaskDocument) -> Result<(), AllocError>
-    ensures { OnOk result (members_view members.new.entries
-        ≡ with_members (members_view members.old.entries) (table.time_members task.now)) }
-{
-    let deadline = moment_or_null(alloc, task.deadline)?;
-    let requested = moment_value(alloc, task.requested)?;
-    let completed = moment_or_null(alloc, task.completed)?;
-    put_value(members, alloc, "deadline", deadline)?;
-    put_value(members, alloc, "request_time", requested)?;
-    put_value(members, alloc, "completion_time", completed)
 }
 
 fn level_value(level: Option<u8>) -> Value

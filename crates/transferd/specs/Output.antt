@@ -1,16 +1,15 @@
 -- What a run prints.
 use Rattle.gt_machine.specs.TaskLine.{task_lines}
 use Rattle.gt_machine.specs.declared.line.TaskLine.{TaskLine}
+use Rattle.gt_replies.specs.Words.{status_name, type_name}
 use Rattle.gt_setup.specs.Setup.{Setup}
-use Rattle.gt_types.specs.declared.code.Status.{Status}
-use Rattle.gt_types.specs.declared.code.Status.TheVariants.{Active, Failed, Succeeded}
 use Rattle.gt_script.specs.declared.line.Line.{Line}
 use Rattle.gt_script.specs.declared.line.Line.TheVariants.{End, Now, Restart, Send}
 use Rattle.gt_types.specs.declared.reply.Reply.{Reply}
 use Rattle.std.specs.Fmt.{decimal}
 use Rattle.std.specs.List.{flat_map}
 use Rattle.std.specs.Option.{option_map_or}
-use Rattle.std.specs.Prelude.{Bool, List, [], codes, if◌then◌else◌, length, take, ◌++◌, ◌<◌, ◌∷◌, ◌≡◌, ℕ}
+use Rattle.std.specs.Prelude.{List, [], codes, length, take, ◌++◌, ◌<◌, ◌∷◌, ◌≡◌, ℕ}
 use Rattle.transferd.specs.Requests.{Response, response_in, response_of}
 use Rattle.transferd.specs.Run.{Played}
 use Rattle.gt_world.specs.World.{StepAnswer, Taken, World, world_after}
@@ -20,16 +19,6 @@ pub record IsPart (text before after : List ℕ) : Type 0 where
   pub number : ℕ
   pub not_all : number < length text
   pub written : after ≡ before ++ take number text
-
--- the type of a task
-abbrev pub type_text : Bool → List ℕ
-type_text is_delete = if is_delete then codes "DELETE" else codes "TRANSFER"
-
--- the status of a task
-abbrev pub status_text : Status → List ℕ
-status_text Active = codes "ACTIVE"
-status_text Succeeded = codes "SUCCEEDED"
-status_text Failed = codes "FAILED"
 
 -- numbers with a space before each, and a text behind them
 abbrev pub numbers_text : List ℕ → List ℕ → List ℕ
@@ -45,7 +34,7 @@ numbers_of line =
 -- a task's line: `task NUMBER TYPE STATUS` and ten numbers
 abbrev pub task_text : TaskLine → List ℕ
 task_text line =
-    codes "task " ++ (decimal line.number ++ (codes " " ++ (type_text line.is_delete ++ (codes " " ++ (status_text line.status ++ numbers_text (numbers_of line) (10 ∷ []))))))
+    codes "task " ++ (decimal line.number ++ (codes " " ++ (type_name line.is_delete ++ (codes " " ++ (status_name line.status ++ numbers_text (numbers_of line) (10 ∷ []))))))
 
 -- the first line of an end: `end EVENTS TASKS`
 abbrev pub count_text : ℕ → ℕ → List ℕ

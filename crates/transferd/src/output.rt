@@ -6,9 +6,9 @@ ghost use Rattle.transferd.specs.Output as spec;
 ghost use Rattle.transferd.specs.Output.{restart_text, table_text, task_text};
 
 use gt_machine::{State, TaskLine};
-use gt_replies::write_reply;
+use gt_replies::{status_name, type_name, write_reply};
 use gt_setup::Setup;
-use gt_types::{Reply, Status};
+use gt_types::Reply;
 use std::alloc::{AllocError, Global};
 
 /// A reply: the line `reply STATUS LENGTH`, and the body on a line.
@@ -57,8 +57,8 @@ fn task_line(alloc: Global, line: &TaskLine) -> Result<String, AllocError>
     ensures { IfOk result (λ text. string_bytes text ≡ task_text line.now) }
 {
     let number = line.number;
-    let kind = type_of(line.is_delete);
-    let status = status_of(line.status);
+    let kind = type_name(line.is_delete);
+    let status = status_name(line.status);
     let numbers = numbers_of(alloc, line)?;
     let numbers = numbers.as_str();
     format!(in alloc; "task {number} {kind} {status}{numbers}")
@@ -108,20 +108,4 @@ fn two_numbers(alloc: Global, first: u64, second: u64, rest: &str) -> Result<Str
         (second ∷ [])) rest.now) }
 {
     format!(in alloc; " {first} {second}{rest}")
-}
-
-fn type_of(is_delete: bool) -> &'static str
-    ensures { result.now ≡ spec.type_text is_delete }
-{
-    if is_delete { "DELETE" } else { "TRANSFER" }
-}
-
-fn status_of(status: Status) -> &'static str
-    ensures { result.now ≡ spec.status_text status }
-{
-    match status {
-        Status::Active => "ACTIVE",
-        Status::Succeeded => "SUCCEEDED",
-        Status::Failed => "FAILED",
-    }
 }

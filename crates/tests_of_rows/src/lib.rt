@@ -1,11 +1,9 @@
-//! Tests of the setup file and of the tables of tasks and items.
+//! Tests of the tables of tasks and items.
 //!
 //! There is nothing here but tests, each file for the crate that it is named after: a crate's tests are proved with the
 //! crate once more, and those of a crate of tests once.
 #![tactic(auto)]
 
-#[cfg(test)]
-mod setup;
 #[cfg(test)]
 mod subtasks;
 #[cfg(test)]

@@ -1,6 +1,8 @@
 use gt_paths::Path;
 use gt_subtasks::{Growth, How, Item, ItemState, Items};
-use gt_types::{Act, Code, Counters, DeleteSpec, Evidence, Kept, Spec};
+use gt_types::{
+    Act, Code, Counters, DeleteSpec, Evidence, Kept, Spec, TransferEntry, TransferSpec, Want,
+};
 use gt_values::{Digest, Sequence};
 use std::alloc::{AllocError, Global};
 use std::test::Fail;
@@ -68,6 +70,8 @@ const STATES: [(ItemState, [u64; 15]); 14] = [
     ),
 ];
 
+const RECURSIVE: [Option<bool>; 3] = [Some(true), Some(false), None];
+
 fn numbers(counters: Counters) -> [u64; 15] {
     [
         counters.total,
@@ -101,6 +105,32 @@ fn deletion(alloc: Global, recursive: bool, count: usize) -> Result<Spec, AllocE
         recursive,
         ignore_missing: false,
         kept: Kept::none(),
+        entries: Sequence::from_vec(entries),
+    }))
+}
+
+// A transfer of three paths, which ask for a folder, a file and either.
+fn transfer(alloc: Global) -> Result<Spec, AllocError> {
+    let mut entries = Vec::new(alloc);
+    for recursive in RECURSIVE {
+        entries.push(TransferEntry {
+            source: Path::root(alloc),
+            destination: Path::root(alloc),
+            recursive,
+        })?;
+    }
+    Ok(Spec::Transfer(TransferSpec {
+        source: 0,
+        destination: 1,
+        label: None,
+        deadline: None,
+        level: None,
+        verify: false,
+        preserve: false,
+        extra: false,
+        skip_source: false,
+        kept: Kept::none(),
+        rules: Sequence::new(alloc),
         entries: Sequence::from_vec(entries),
     }))
 }
@@ -144,6 +174,35 @@ fn copied(size: u64) -> ItemState {
         source: Digest::from_bytes([0; 32]),
         back: None,
     }))
+}
+
+// The kind of act of the item: 1 takes a file, 2 a folder, 3 either; an erasure is 10 more.
+fn kind(items: &Items, item: u64) -> Option<u64> {
+    items.item(item).map(|item| kind_of(&item.act))
+}
+
+fn kind_of(act: &Act) -> u64 {
+    match act {
+        Act::Transfer { want, .. } => want_number(*want),
+        Act::Erase { want, .. } => erasure_number(*want),
+        Act::RemoveFolder { .. } => 0,
+    }
+}
+
+fn want_number(want: Want) -> u64 {
+    match want {
+        Want::File => 1,
+        Want::Folder => 2,
+        Want::Either => 3,
+    }
+}
+
+fn erasure_number(want: Want) -> u64 {
+    match want {
+        Want::File => 11,
+        Want::Folder => 12,
+        Want::Either => 13,
+    }
 }
 
 // What the item keeps of its way: its last grant, its end, and whether it was tried again.
@@ -239,6 +298,24 @@ fn items_of_two_tasks(rt: HostRuntime) -> Result<(), Fail> {
         numbers(items.counters(2)),
         [2, 1, 0, 0, 0, 1, 0, 0, 0, 0, 0, 0, 0, 0, 0]
     );
+    Ok(())
+}
+
+#[test]
+fn acts_by_their_entries(rt: HostRuntime) -> Result<(), Fail> {
+    let alloc = rt.alloc();
+    let mut items = Items::new(alloc);
+    let growth = items.first_items(alloc, 1, &transfer(alloc)?)?;
+    add(&mut items, growth)?;
+    let growth = items.first_items(alloc, 2, &deletion(alloc, false, 1)?)?;
+    add(&mut items, growth)?;
+    let growth = items.first_items(alloc, 3, &deletion(alloc, true, 1)?)?;
+    add(&mut items, growth)?;
+    assert_eq!(rt; kind(&items, 1), Some(2));
+    assert_eq!(rt; kind(&items, 2), Some(1));
+    assert_eq!(rt; kind(&items, 3), Some(3));
+    assert_eq!(rt; kind(&items, 4), Some(11));
+    assert_eq!(rt; kind(&items, 5), Some(13));
     Ok(())
 }
 
