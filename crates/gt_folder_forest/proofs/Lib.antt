@@ -1,1 +1,1 @@
-pub mod PageLemmas
+mod PageLemmas

@@ -10,7 +10,7 @@ fn send<D: Send + Drop, R: Threads>(rt: &R, device: D) -> D {
 }
 
 /// A disk is owned by another thread, and comes back.
-pub fn send_disk<R: Threads>(rt: &R, disk: FileDisk) -> FileDisk {
+pub fn send_disk<R: Threads>(rt: &R, disk: FileDisk<File>) -> FileDisk<File> {
     send(rt, disk)
 }
 

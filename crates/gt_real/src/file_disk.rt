@@ -48,14 +48,54 @@ impl From<AllocError> for FileFault {
     }
 }
 
-/// A regular file as a disk. It holds the file's advisory lock for as long as it lives.
+/// What a disk asks of an open file.
+pub trait OpenFile {
+    /// Its length in bytes.
+    fn length(&mut self) -> io::Result<u64>;
+
+    /// Reads the bytes from this place on, as many as there is room for.
+    fn read_at(&mut self, into: &mut [u8], at: u64) -> io::Result<()>;
+
+    /// Writes all these bytes from this place on.
+    fn write_at(&mut self, from: &[u8], at: u64) -> io::Result<()>;
+
+    /// Brings what was written to the disk, before it answers.
+    fn sync(&mut self) -> io::Result<()>;
+
+    /// Drops what memory holds of the file.
+    fn forget(&mut self);
+}
+
+impl OpenFile for File {
+    fn length(&mut self) -> io::Result<u64> {
+        Ok(self.metadata()?.len())
+    }
+
+    fn read_at(&mut self, into: &mut [u8], at: u64) -> io::Result<()> {
+        self.read_exact_at(into, at)
+    }
+
+    fn write_at(&mut self, from: &[u8], at: u64) -> io::Result<()> {
+        self.write_all_at(from, at)
+    }
+
+    fn sync(&mut self) -> io::Result<()> {
+        self.sync_all()
+    }
+
+    fn forget(&mut self) {
+        let _ = libc::posix_fadvise(self.as_raw_fd(), 0, 0, libc::POSIX_FADV_DONTNEED);
+    }
+}
+
+/// An open file as a disk. One of the system is regular, and its advisory lock is held for as long as the disk lives.
 #[derive(Drop)]
-pub struct FileDisk {
-    file: File,
+pub struct FileDisk<F: OpenFile + Drop> {
+    file: F,
     faults: Faults,
 }
 
-impl Model for FileDisk {
+impl<F: OpenFile + Drop> Model for FileDisk<F> {
     ghost use Rattle.std.specs.Prelude.{ℕ};
 
     ghost Value = { ℕ };
@@ -63,7 +103,24 @@ impl Model for FileDisk {
     ghost view = { λ d. d.faults };
 }
 
-impl FileDisk {
+impl<F: OpenFile + Drop> FileDisk<F> {
+    /// A disk over this file, known to a person by this name.
+    pub fn over(file: F, name: String) -> FileDisk<F>
+        ensures { result ≡ 0 }
+    {
+        FileDisk {
+            file,
+            faults: Faults::new(name),
+        }
+    }
+
+    /// The file.
+    pub fn file(&self) -> &F {
+        &self.file
+    }
+}
+
+impl FileDisk<File> {
     /// Opens a regular file for reading and writing, and makes it where it is missing. The file and the folder that it
     /// stands in are on the disk before the call answers, whoever made it: an earlier run may have been killed in between.
     ///
@@ -71,7 +128,7 @@ impl FileDisk {
     pub fn open<R: Files<File = File> + Alloc<A = Global>>(
         rt: &R,
         path: &str,
-    ) -> Result<FileDisk, FileFault>
+    ) -> Result<FileDisk<File>, FileFault>
         ensures { IfOk result (λ disk. disk ≡ 0) }
     {
         let file = open_regular(rt, path)?;
@@ -82,10 +139,7 @@ impl FileDisk {
         }
         file.sync_all()?;
         sync_folder_of(rt, path)?;
-        Ok(FileDisk {
-            file,
-            faults: Faults::new(String::from_str(rt.alloc(), path)?),
-        })
+        Ok(FileDisk::over(file, String::from_str(rt.alloc(), path)?))
     }
 }
 
@@ -122,7 +176,7 @@ fn sync_folder_of<R: Files<File = File> + Alloc<A = Global>>(
     Ok(())
 }
 
-impl Disk for FileDisk {
+impl<F: OpenFile + Drop> Disk for FileDisk<F> {
     ghost words = { untold (λ d. d) (λ _. 0) };
 
     ghost laws = { untold_laws (λ d. d) (λ _. 0) };
@@ -135,8 +189,8 @@ impl Disk for FileDisk {
         ensures same { CountsFaults self.old self.new result }
         ensures room { IfOk result (λ n. n < 2 ^ 63) }
     {
-        match self.file.metadata() {
-            Ok(found) if found.len() < END => Ok(found.len()),
+        match self.file.length() {
+            Ok(length) if length < END => Ok(length),
             Ok(_) => Err(self.faults.add("the look at the length", too_large())),
             Err(error) => Err(self.faults.add("the look at the length", error)),
         }
@@ -148,7 +202,7 @@ impl Disk for FileDisk {
         if ends_too_late(at, into.len()) {
             return Err(self.faults.add("a read", too_large()));
         }
-        match self.file.read_exact_at(into, at) {
+        match self.file.read_at(into, at) {
             Ok(()) => Ok(()),
             Err(error) => Err(self.faults.add("a read", error)),
         }
@@ -161,7 +215,7 @@ impl Disk for FileDisk {
         if ends_too_late(at, from.len()) {
             return Err(self.faults.add("a write", too_large()));
         }
-        match self.file.write_all_at(from, at) {
+        match self.file.write_at(from, at) {
             Ok(()) => Ok(()),
             Err(error) => Err(self.faults.add("a write", error)),
         }
@@ -170,10 +224,12 @@ impl Disk for FileDisk {
     fn sync(&mut self) -> Result<(), Failed>
         ensures same { CountsFaults self.old self.new result }
     {
-        match self.file.sync_all() {
+        match self.file.sync() {
             Ok(()) => Ok(()),
+            // Linux counts the pages of a failed sync as written: a later sync would answer well over bytes that never reached
+            // the disk, and a read would find them.
             Err(error) => {
-                forget(&self.file);
+                self.file.forget();
                 Err(self.faults.add("a sync", error))
             }
         }
@@ -189,10 +245,4 @@ fn ends_too_late(at: u64, length: usize) -> bool
 
 fn too_large() -> io::Error {
     io::Error::from(ErrorKind::FileTooLarge)
-}
-
-// Drops what memory holds of the file. Linux counts the pages of a failed sync as written: a later sync would answer well over
-// bytes that never reached the disk, and a read would find them.
-fn forget(file: &File) {
-    let _ = libc::posix_fadvise(file.as_raw_fd(), 0, 0, libc::POSIX_FADV_DONTNEED);
 }

@@ -13,7 +13,7 @@ mod tcp_door;
 mod tcp_link;
 
 pub use crossing::{send_clock, send_disk, send_door, send_link, send_sink, send_source};
-pub use file_disk::{FileDisk, FileFault};
+pub use file_disk::{FileDisk, FileFault, OpenFile};
 pub use real_clock::RealClock;
 pub use std_sink::StdSink;
 pub use std_source::StdSource;

@@ -70,7 +70,8 @@ impl Door for TcpDoor {
     fn next_link(&mut self, alloc: Global) -> Result<Option<(TcpIn, TcpOut)>, DoorFault>
         requires { self.old.is_out ≡ false }
         ensures same { IsSameDoor real_words self.old self.new }
-        ensures cause { IsErrOf result DoorFault.Failed → HasFailed real_words.faults self.old self.new }
+        ensures cause { IsErrOf result DoorFault.Failed
+            → HasFailed real_words.faults self.old self.new }
         ensures value { AsksNext real_words self.old result self.new }
         ensures counted { CountsLinks self.old result self.new }
     {

@@ -63,7 +63,8 @@ fn put_identity(
 ) -> Result<(), AllocError>
     requires { IsTrue (is_printable_task (length setup.now.collections) task.now) }
     ensures { OnOk result (members_view members.new.entries
-        ≡ with_members (members_view members.old.entries) (table.identity_members setup.now task.now)) }
+        ≡ with_members (members_view members.old.entries)
+        (table.identity_members setup.now task.now)) }
 {
     let id = made_value(alloc, setup, TASK, task.number)?;
     let owner = id_value(alloc, &task.owner)?;
@@ -202,7 +203,8 @@ pub(crate) fn task_list(
 ) -> Result<Value, AllocError>
     requires { IsTrue (list_all (is_printable_task (length setup.now.collections)) rows.now) }
     ensures { IfOk result (λ value. view value
-        ≡ page_document (codes "task_list") (array_of (table.task_document setup.now) rows.now) page) }
+        ≡ page_document (codes "task_list")
+        (array_of (table.task_document setup.now) rows.now) page) }
 {
     list(alloc, setup, "task_list", rows.as_slice(), page)
 }

@@ -24,6 +24,14 @@ line_end_of max bytes = if nat_le max (line_length bytes) then Err (TooLong max)
 abbrev pub bytes_end_of : ℕ → List ℕ → Result Unit StreamFault
 bytes_end_of want bytes = if nat_le want (length bytes) then Ok tt else Err (Cut (length bytes) want)
 
+-- a source's fault is told as one: where the answer is another, the count of faults stays
+abbrev pub TellsFaults : {T : Type 0} → ℕ → Result T StreamFault → ℕ → Type 0
+TellsFaults before (Err ReadFault) now = Unit {0}
+TellsFaults before (Err OutOfMemory) now = now ≡ before
+TellsFaults before (Err (TooLong max)) now = now ≡ before
+TellsFaults before (Err (Cut have want)) now = now ≡ before
+TellsFaults before (Ok done) now = now ≡ before
+
 -- the answer, or that of a failed source or of want of memory in its place
 abbrev pub IsUnlessFault : {T : Type 0} → Result T StreamFault → Result T StreamFault → Type 0
 IsUnlessFault answer result = (result ≡ answer) ⊎ ((result ≡ Err ReadFault) ⊎ (result ≡ Err OutOfMemory))

@@ -1,5 +1,5 @@
 ghost use Rattle.gt_causes.specs.Causes.{HasFailed};
-ghost use Rattle.gt_streams.specs.Reading.{NumbersBytes, ReadsBytes};
+ghost use Rattle.gt_streams.specs.Reading.{NumbersBytes, ReadsBytes, TellsFaults};
 ghost use Rattle.gt_streams.specs.Streams.{IsSameSource};
 ghost use Rattle.std.specs.Prelude.{IsErrOf, IsTrue, length};
 
@@ -21,6 +21,7 @@ pub fn read_exactly<S: Source>(
     ensures same { IsSameSource S.words source.old source.new }
     ensures cause { IsErrOf result StreamFault.ReadFault
         → HasFailed S.words.faults source.old source.new }
+    ensures counted { TellsFaults (S.words.faults source.old) result (S.words.faults source.new) }
     // The answer and the number of bytes handed out, of every source.
     ensures value { NumbersBytes want result (length into.new.items) }
     ensures told { IsTrue (S.words.told source.old)

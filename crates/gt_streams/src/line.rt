@@ -1,5 +1,5 @@
 ghost use Rattle.gt_causes.specs.Causes.{HasFailed};
-ghost use Rattle.gt_streams.specs.Reading.{HandsOutLine, ReadsLine};
+ghost use Rattle.gt_streams.specs.Reading.{HandsOutLine, ReadsLine, TellsFaults};
 ghost use Rattle.gt_streams.specs.Streams.{IsSameSource};
 ghost use Rattle.std.specs.Prelude.{IsErrOf, IsTrue};
 
@@ -44,6 +44,7 @@ pub fn read_line<S: Source>(
     ensures same { IsSameSource S.words source.old source.new }
     ensures cause { IsErrOf result StreamFault.ReadFault
         → HasFailed S.words.faults source.old source.new }
+    ensures counted { TellsFaults (S.words.faults source.old) result (S.words.faults source.new) }
     // The answer and the bytes handed out, of every source.
     ensures value { HandsOutLine max result into.new.items }
     ensures told { IsTrue (S.words.told source.old)

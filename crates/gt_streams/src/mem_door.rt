@@ -50,7 +50,14 @@ impl MemDoor {
         fails: Vec<u64>,
     ) -> Result<MemDoor, AllocError>
         ensures value { IfOk result (λ door. door
-            ≡ record { links = links.items; next = 0; back = []; is_out = false; has_ended = false; counts = door.counts }) }
+            ≡ record {
+              links = links.items;
+              next = 0;
+              back = [];
+              is_out = false;
+              has_ended = false;
+              counts = door.counts;
+            }) }
         ensures listed { IfOk result (λ door. IsFresh fails.items door.counts) }
     {
         let back = Vec::with_capacity(alloc, links.len())?;

@@ -1,7 +1,7 @@
 ghost use Rattle.gt_causes.specs.Causes.{HasFailed};
 ghost use Rattle.gt_streams.specs.Memory.{Gives, IsFresh, source_words};
 ghost use Rattle.gt_streams.specs.Streams.{IsSameSource, SourceAnswer};
-ghost use Rattle.std.specs.Prelude.{IfOk, IsErr, length, ◌≡◌, ◌≤◌};
+ghost use Rattle.std.specs.Prelude.{IfOk, IsErr, OnOk, length, ◌≡◌, ◌≤◌};
 
 use crate::Source;
 use gt_causes::{CallCounts, Failed};
@@ -71,6 +71,8 @@ impl Source for MemSource {
     fn read(&mut self, into: &mut [u8]) -> Result<usize, Failed>
         ensures same { IsSameSource source_words self.old self.new }
         ensures cause { IsErr result → HasFailed source_words.faults self.old self.new }
+        ensures counted { OnOk result
+            (source_words.faults self.new ≡ source_words.faults self.old) }
         ensures room { IfOk result (λ n. n ≤ length into.old) }
         ensures told { SourceAnswer source_words self.old into.old result into.new self.new }
         ensures listed { Gives self.old into.old result into.new self.new }

@@ -1,6 +1,6 @@
 ghost use Rattle.gt_causes.specs.Causes.{HasFailed};
 ghost use Rattle.gt_streams.specs.Streams.{IsSameSource, SourceAnswer, SourceWords};
-ghost use Rattle.std.specs.Prelude.{IfOk, IsErr, IsTrue, length, ◌≡◌, ◌≤◌};
+ghost use Rattle.std.specs.Prelude.{IfOk, IsErr, IsTrue, OnOk, length, ◌≡◌, ◌≤◌};
 
 use gt_causes::Failed;
 
@@ -20,6 +20,7 @@ pub trait Source {
     fn read(&mut self, into: &mut [u8]) -> Result<usize, Failed>
         ensures same { IsSameSource words self.old self.new }
         ensures cause { IsErr result → HasFailed words.faults self.old self.new }
+        ensures counted { OnOk result (words.faults self.new ≡ words.faults self.old) }
         ensures room { IfOk result (λ n. n ≤ length into.old) }
         ensures told { IsTrue (words.told self.old)
             → SourceAnswer words self.old into.old result into.new self.new };

@@ -40,7 +40,7 @@ impl Source for WrongSource {
             return self.inner.read(into);
         }
         if self.wrong == Wrong::LeftOut {
-            let _ = self.inner.read(&mut [0]);
+            self.inner.read(&mut [0])?;
         }
         let n = self.inner.read(into)?;
         Ok(spoilt(into, n, self.wrong))

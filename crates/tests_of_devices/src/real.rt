@@ -1,7 +1,8 @@
 // The suites over real files and pipes, locks, what is given back, and faults. Files lie in the folder for temporary ones.
 use gt_disk::{Disk, disk_suite};
-use gt_real::{FileDisk, FileFault, StdSink, StdSource};
+use gt_real::{FileDisk, FileFault, OpenFile, StdSink, StdSource};
 use gt_streams::{Sink, Source, sink_suite, source_suite};
+use std::alloc::Global;
 use std::fs::{self, File};
 use std::io::{self, ErrorKind, Seek, Write};
 use std::test::Fail;
@@ -64,6 +65,60 @@ fn faults_of_a_disk_are_counted(rt: HostRuntime) -> Result<(), Fail> {
     assert!(rt; disk.read(19, &mut [0; 2]).is_ok());
     assert_eq!(rt; disk.faults(), 3);
     fs::remove_file(&rt, &path)?;
+    Ok(())
+}
+
+// A file of no bytes, whose sync fails where it is told so. It notes what it is asked.
+#[derive(Drop)]
+struct Noted {
+    syncs: u64,
+    forgotten: u64,
+    fails: bool,
+}
+
+impl OpenFile for Noted {
+    fn length(&mut self) -> io::Result<u64> {
+        Ok(0)
+    }
+
+    fn read_at(&mut self, _into: &mut [u8], _at: u64) -> io::Result<()> {
+        Err(ErrorKind::UnexpectedEof.into())
+    }
+
+    fn write_at(&mut self, _from: &[u8], _at: u64) -> io::Result<()> {
+        Err(ErrorKind::StorageFull.into())
+    }
+
+    fn sync(&mut self) -> io::Result<()> {
+        self.syncs = self.syncs.saturating_add(1);
+        if self.fails {
+            return Err(ErrorKind::StorageFull.into());
+        }
+        Ok(())
+    }
+
+    fn forget(&mut self) {
+        self.forgotten = self.forgotten.saturating_add(1);
+    }
+}
+
+// Whether a sync fails, how often the file was synced and forgotten, and the count of faults.
+fn synced(alloc: Global, fails: bool) -> Result<(bool, u64, u64, u64), Fail> {
+    let file = Noted {
+        syncs: 0,
+        forgotten: 0,
+        fails,
+    };
+    let mut disk = FileDisk::over(file, String::from_str(alloc, "noted")?);
+    let failed = disk.sync().is_err();
+    let noted = disk.file();
+    Ok((failed, noted.syncs, noted.forgotten, disk.faults()))
+}
+
+#[test]
+fn sync_reaches_the_file(rt: HostRuntime) -> Result<(), Fail> {
+    assert_eq!(rt; synced(rt.alloc(), false)?, (false, 1, 0, 0));
+    assert_eq!(rt; synced(rt.alloc(), true)?, (true, 1, 1, 1));
     Ok(())
 }
 

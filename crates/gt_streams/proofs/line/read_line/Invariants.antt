@@ -6,6 +6,7 @@ use Rattle.std.proofs.Common.{IsTrue, length, ◌++◌, ◌-◌, ◌≡◌, ◌�
 abbrev pub invariant-loop-into : goal.invariant-loop-into
 invariant-loop-into g l = record {
   same : IsSameSource g.S.Source.words l.fn.source l.source;
+  counted : g.S.Source.words.faults l.source ≡ g.S.Source.words.faults l.fn.source;
   size : length l.into.items ≤ l.max;
   plain : HasNoNewline l.into.items;
   bytes : IsTrue (g.S.Source.words.told l.fn.source) → g.S.Source.words.left l.fn.source ≡ l.into.items ++ g.S.Source.words.left l.source;
