@@ -69,6 +69,13 @@ impl Rules {
         self.rows.as_slice()
     }
 
+    /// The number that the next rule gets.
+    pub fn next_number(&self) -> u64
+        ensures { result ≡ next_rule self.now.rows }
+    {
+        self.newest.len() as u64 + 1
+    }
+
     /// Adds a rule that is made at the event `born`, and gives its number. Takes no memory.
     pub fn add(&mut self, collection: u32, spec: AccessSpec, born: u64) -> u64
         requires { 0 < self.old.spare }

@@ -5,13 +5,14 @@ use Rattle.std.proofs.Common.{◌≡◌, ℕ, zero, suc, ◌+◌, ◌&&◌, List
 use Rattle.std.specs.Option.{option_map, option_map_or}
 use Rattle.std.specs.Prelude.{find, is_none, not, option_and_then, slice_get}
 use Rattle.gt_desk.specs.Calls.{IsOnlyTask}
-use Rattle.gt_machine.specs.Answer.{answer_of, doing, event_at, refusing, submitted}
-use Rattle.gt_machine.specs.Decision.{events_in, said}
+use Rattle.gt_machine.specs.Answer.{answer_of}
+use Rattle.gt_machine.specs.Decision.{doing, event_at, events_in, refusing, said}
 use Rattle.gt_machine.specs.MachineState.{MachineState}
 use Rattle.gt_machine.specs.RuleSteps.{only_if}
 use Rattle.gt_machine.specs.Run.{run_from}
 use Rattle.gt_machine.specs.SoundRows.{HasOneTaskEach}
 use Rattle.gt_machine.specs.Step.{counted_state, may_come, step_of}
+use Rattle.gt_machine.specs.TaskAnswer.{submitted}
 use Rattle.gt_machine.specs.TaskSteps.{is_full, new_task, with_task}
 use Rattle.gt_tasks.specs.Tasks.{is_of, number_of}
 use Rattle.gt_machine.specs.declared.decision.Decision.{Decision}

@@ -7,7 +7,7 @@ ghost use Rattle.gt_causes.specs.Causes.{HasFailed};
 ghost use Rattle.gt_disk.specs.Disk.{IsSameDisk};
 ghost use Rattle.gt_journal.specs.Opening as journal;
 ghost use Rattle.gt_journal.specs.declared.open_fault.OpenFault.TheVariants.{JournalFault as DiskFault};
-ghost use Rattle.gt_machine.specs.Answer.{answer_of, is_answered};
+ghost use Rattle.gt_machine.specs.Answer.{answer_of};
 ghost use Rattle.gt_machine.specs.Run.{IsReached, run_of};
 ghost use Rattle.gt_setup.specs.Setup.{has_identity};
 ghost use Rattle.gt_types.specs.Command.{is_command};
@@ -137,7 +137,6 @@ impl<D: Disk> Desk<D> {
     ) -> Result<Reply, DeskFault>
         requires known { IsTrue (has_identity self.old.setup identity.now) }
         requires within { IsTrue (is_command (length self.old.setup.collections) command.now) }
-        requires answered { IsTrue (is_answered command.now) }
 
         ensures call { IsCall D.words
             (λ m. answer_of self.old.setup m identity.now command.now now)

@@ -4,7 +4,7 @@ ghost use Rattle.gt_desk.specs.Desk.{HasRecorded, HasSettled, IsSameDesk, IsSame
 ghost use Rattle.gt_desk.specs.History.{Stands};
 ghost use Rattle.gt_causes.specs.Causes.{HasFailed};
 ghost use Rattle.gt_disk.specs.Disk.{LeavesOnly};
-ghost use Rattle.gt_machine.specs.Answer.{HasStep, answer_of, is_answered};
+ghost use Rattle.gt_machine.specs.Answer.{HasStep, answer_of};
 ghost use Rattle.gt_machine.specs.Decision.{said};
 ghost use Rattle.gt_machine.specs.Step.{step_of};
 ghost use Rattle.gt_machine.specs.declared.decision.Decision.TheVariants.{Do};
@@ -63,7 +63,6 @@ impl<D: Disk> Desk<D> {
     ) -> Result<Decision<Reply>, AllocError>
         requires known { IsTrue (has_identity self.now.setup identity.now) }
         requires within { IsTrue (is_command (length self.now.setup.collections) command.now) }
-        requires answered { IsTrue (is_answered command.now) }
         ensures answer { IfOk result
             (λ decision. decision ≡ answer_of self.now.setup self.now.ledger.machine
             identity.now command.now now) }

@@ -3,10 +3,11 @@ use Rattle.std.proofs.Common.{◌≡◌, ℕ, List, [], ◌∷◌, length, map, 
 use Rattle.std.specs.Prelude.{is_some, option_map}
 use Rattle.std.specs.Str.{chars, is_utf8}
 use lib.Utf8.{encode}
-use Rattle.gt_machine.specs.Answer.{answer_of, submitted}
+use Rattle.gt_machine.specs.Answer.{answer_of}
 use Rattle.gt_machine.specs.MachineState.{MachineState}
 use Rattle.gt_machine.specs.Run.{run_of}
 use Rattle.gt_machine.specs.Step.{step_of}
+use Rattle.gt_machine.specs.TaskAnswer.{submitted}
 use Rattle.gt_machine.specs.TaskLine.{task_lines}
 use Rattle.gt_machine.specs.declared.decision.Decision.{Decision}
 use Rattle.gt_machine.specs.declared.decision.Decision.TheVariants.{Do, Say}

@@ -1,4 +1,5 @@
 mod Runs
+mod SortLemmas
 mod Effects
 mod Moments
 mod TaskKeys
@@ -18,5 +19,9 @@ mod OfSetup
 mod StepLemmas
 mod StepAnswers
 mod AnswerLemmas
+mod NamedLemmas
+mod OwnLemmas
+mod ListLemmas
+mod RuleNumbers
 mod Soundness
 mod Examples

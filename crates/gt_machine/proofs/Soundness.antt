@@ -15,6 +15,7 @@ use Rattle.gt_machine.proofs.OfSetup.{OfSetup, empty_of_setup, step_of_setup}
 use Rattle.gt_machine.proofs.OneRule.{HasRuleOrder, no_rules, step_orders}
 use Rattle.gt_machine.proofs.OneTask.{HasOrderlyTasks, no_tasks, one_task, step_keeps_order, tasks_numbered}
 use Rattle.gt_machine.proofs.Parents.{HasParents, no_parents, parents_before, step_parents}
+use Rattle.gt_machine.proofs.RuleNumbers.{HasRulesWithin, no_rules_within, step_rules_within}
 use Rattle.gt_machine.proofs.Runs.{of_run, step_is}
 use Rattle.gt_setup.specs.Setup.{Setup}
 use Rattle.gt_types.specs.declared.event.Event.{Event}
@@ -27,9 +28,10 @@ numbered setup history m is = record {
   of_tasks = all_of_tasks m (of_run setup HasSuited (step_suits setup) none_suited history m is);
 }
 
-rules_sound : (setup : Setup) (history : List Event) (m : MachineState) → run_of setup history ≡ Some m → IsSoundRules m
+pub rules_sound : (setup : Setup) (history : List Event) (m : MachineState) → run_of setup history ≡ Some m → IsSoundRules m
 rules_sound setup history m is = record {
   access_lives = of_run setup HasLives (step_lives setup) no_lives history m is;
+  access_within = of_run setup HasRulesWithin (step_rules_within setup) no_rules_within history m is;
   access_numbers = (of_run setup HasRuleOrder (step_orders setup) no_rules history m is).numbers;
   access_keys = (of_run setup HasRuleOrder (step_orders setup) no_rules history m is).keys;
 }

@@ -1,7 +1,7 @@
 -- What holds in the state that a history leads to.
 use Rattle.std.specs.Prelude.{All, IsTrue, List, length, ℕ, ◌-◌, ◌^◌, ◌≡◌, ◌≤◌}
 use Rattle.gt_machine.specs.MachineState.{MachineState}
-use Rattle.gt_machine.specs.SoundRows.{HasOneLive, HasOneTaskEach, HasParentBefore, IsLife, IsNumbered, IsOfTask, rule_key}
+use Rattle.gt_machine.specs.SoundRows.{HasOneLive, HasOneTaskEach, HasParentBefore, IsLife, IsNumbered, IsNumberedWithin, IsOfTask, rule_key}
 use Rattle.gt_machine.specs.SoundValues.{HasPaths, IsRuleOfSetup, IsTaskOfSetup}
 use Rattle.gt_setup.specs.Setup.{Setup}
 use Rattle.gt_subtasks.specs.Item.{items_of}
@@ -20,9 +20,10 @@ pub record IsNumberedState (m : MachineState) : Type 0 where
   pub parents : All (HasParentBefore m) m.items
   pub of_tasks : All (IsOfTask m) m.items
 
--- the lives of rules
+-- the lives of rules, and their numbers
 pub record IsSoundRules (m : MachineState) : Type 0 where
   pub access_lives : All (λ row. IsLife m.events row.born row.ended) m.access
+  pub access_within : IsNumberedWithin (λ row. row.number) m.access
   pub access_numbers : HasOneLive (λ row. row.ended) (λ row. row.number) m.access
   pub access_keys : HasOneLive (λ row. row.ended) rule_key m.access
 

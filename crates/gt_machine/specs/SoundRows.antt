@@ -1,5 +1,5 @@
 -- What holds of the rows in each state that events lead to.
-use Rattle.std.specs.Prelude.{IsNone, IsSomeAnd, List, Option, Some, false, slice_get, ℕ, ◌+◌, ◌<◌, ◌≡◌, ◌≤◌}
+use Rattle.std.specs.Prelude.{All, IsNone, IsSomeAnd, List, Option, Some, false, length, slice_get, ℕ, ◌+◌, ◌<◌, ◌≡◌, ◌≤◌}
 use Rattle.gt_access.specs.declared.row.AccessRow.{AccessRow}
 use Rattle.gt_machine.specs.MachineState.{MachineState, item_at, task_at}
 use Rattle.gt_paths.specs.Path.{PathValue, overlaps}
@@ -14,6 +14,10 @@ use Rattle.gt_types.specs.declared.spec.Spec.{Spec}
 -- rows are numbered from 1 in order
 abbrev pub IsNumbered : {X : Type 0} → (X → ℕ) → List X → Type 0
 IsNumbered {X} number rows = (i : ℕ) (x : X) → slice_get rows i ≡ Some x → number x ≡ i + 1
+
+-- no row has a number above how many rows there are
+abbrev pub IsNumberedWithin : {X : Type 0} → (X → ℕ) → List X → Type 0
+IsNumberedWithin number rows = All (λ row. number row ≤ length rows) rows
 
 -- a parent comes before, in the same task
 abbrev pub HasParentBefore : MachineState → Item → Type 0

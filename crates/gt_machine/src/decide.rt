@@ -1,13 +1,14 @@
 ghost use Rattle.std.specs.Prelude.{◌≡◌, ◌<◌, ◌^◌, IfOk, IsTrue, length};
-ghost use Rattle.gt_machine.specs.Answer as answers;
-ghost use Rattle.gt_machine.specs.Answer.{HasStep, answer_of, is_answered};
+ghost use Rattle.gt_machine.specs.Answer.{HasStep, answer_of};
+ghost use Rattle.gt_machine.specs.Decision as decisions;
 ghost use Rattle.gt_machine.specs.Decision.{said};
 ghost use Rattle.gt_machine.specs.Run.{IsReached};
+ghost use Rattle.gt_machine.specs.TaskAnswer as answers;
 ghost use Rattle.gt_setup.specs.Setup.{has_identity};
 ghost use Rattle.gt_types.specs.Command.{is_command};
 ghost use Rattle.gt_types.specs.Reply.{is_printable};
 
-use crate::decision::Decision;
+use crate::decision::{Decision, refusing};
 use crate::state::State;
 use gt_setup::Setup;
 use gt_types::{Command, Event, Happening, Reply, ReplyCode, TransferSpec, Who};
@@ -28,7 +29,6 @@ impl State {
         requires countable { self.now.machine.events < 2 ^ 63 }
         requires known { IsTrue (has_identity setup.now who.now.identity) }
         requires within { IsTrue (is_command (length setup.now.collections) command.now) }
-        requires answered { IsTrue (is_answered command.now) }
 
         ensures answer { IfOk result (λ d. d
             ≡ answer_of setup.now self.now.machine who.now.identity command.now now) }
@@ -42,42 +42,68 @@ impl State {
         let _identity = who.identity.as_bytes();
         let _collections = setup.collections();
         let _seconds = now.seconds();
-        self.answer(setup, who, command, now)
+        self.answer(alloc, setup, who, command, now)
     }
 
     fn answer(
         &self,
+        alloc: Global,
         setup: &Setup,
         who: &Who,
         command: &Command,
         now: Moment,
     ) -> Result<Decision<Reply>, AllocError>
-        requires { IsTrue (is_answered command.now) }
+        requires { IsTrue (is_command (length setup.now.collections) command.now) }
         ensures { IfOk result (λ d. d
             ≡ answer_of setup.now self.now.machine who.now.identity command.now now) }
     {
+        let caller = &who.identity;
         match command {
             Command::IssueId => Ok(self.issue(who, now)),
             Command::SubmitTransfer { submission, spec } => {
-                self.submit(&who.identity, submission, spec, now)
+                self.submit(caller, submission, spec, now)
             }
+            Command::ListTasks { limit, offset } => Ok(Decision::Say(self.tasks_reply(
+                alloc, caller, *limit, *offset,
+            )?)),
+            Command::ShowTask { task } => self.show_task(setup, caller, task),
+            Command::ListSuccesses {
+                task,
+                limit,
+                offset,
+            } => self.list_successes(alloc, setup, caller, task, (*limit, *offset)),
+            Command::ListSkipped {
+                task,
+                limit,
+                offset,
+            } => self.list_skipped(alloc, setup, caller, task, (*limit, *offset)),
+            Command::ShowEndpoint { collection } => Ok(Decision::Say(Reply::Endpoint {
+                collection: *collection,
+            })),
+            Command::ListAccess { collection } => {
+                self.list_access(alloc, setup, caller, *collection)
+            }
+            Command::AddAccess { collection, spec } => {
+                self.add_access(setup, caller, *collection, spec, now)
+            }
+            Command::ShowAccess { collection, rule } => {
+                self.show_access(setup, caller, *collection, rule)
+            }
+            Command::EndAccess { collection, rule } => {
+                Ok(self.end_access(setup, caller, *collection, rule, now))
+            }
+            Command::ReplaceAccess {
+                collection,
+                rule,
+                write,
+            } => Ok(self.replace_access(setup, caller, *collection, rule, *write, now)),
             Command::SubmitDelete { .. }
             | Command::UpdateTask { .. }
             | Command::CancelTask { .. }
             | Command::ListPauses
             | Command::AddPause { .. }
             | Command::ShowPause { .. }
-            | Command::EndPause { .. }
-            | Command::ListTasks { .. }
-            | Command::ShowTask { .. }
-            | Command::ListSuccesses { .. }
-            | Command::ListSkipped { .. }
-            | Command::ShowEndpoint { .. }
-            | Command::ListAccess { .. }
-            | Command::AddAccess { .. }
-            | Command::ShowAccess { .. }
-            | Command::EndAccess { .. }
-            | Command::ReplaceAccess { .. } => unreachable!(),
+            | Command::EndPause { .. } => unreachable!(),
         }
     }
 
@@ -121,8 +147,8 @@ impl State {
         Ok(self.doing(now, what, submitted(true, submission, task)))
     }
 
-    fn doing(&self, now: Moment, what: Happening, reply: Reply) -> Decision<Reply>
-        ensures { result ≡ answers.doing self.now.machine now what reply }
+    pub(crate) fn doing(&self, now: Moment, what: Happening, reply: Reply) -> Decision<Reply>
+        ensures { result ≡ decisions.doing self.now.machine now what reply }
     {
         let moment = now.max(self.greatest);
         Decision::Do(Event { moment, what }, reply)
@@ -138,10 +164,4 @@ fn submitted(is_new: bool, submission: &Id, task: u64) -> Reply
         submission: *submission,
         task,
     }
-}
-
-fn refusing(code: ReplyCode) -> Decision<Reply>
-    ensures { result ≡ answers.refusing code }
-{
-    Decision::Say(Reply::Refused { code })
 }

@@ -1,10 +1,16 @@
-ghost use Rattle.std.specs.Prelude.{◌≡◌, ◌++◌, ◌∷◌, [], IsTrue, List, Some, length};
+ghost use Rattle.std.specs.Prelude.{◌≡◌, ◌≤◌, ◌*◌, ◌++◌, ◌∷◌, [], IsTrue, List, Some, length, ℕ};
+ghost use Rattle.gt_machine.specs.Answer.{answer_of};
+ghost use Rattle.gt_machine.specs.Decision.{said};
+ghost use Rattle.gt_machine.specs.Lists.{joined_pages};
 ghost use Rattle.gt_machine.specs.MachineState.{MachineState, empty_state};
+ghost use Rattle.gt_machine.specs.Named.{NamesWhatIsMade};
 ghost use Rattle.gt_machine.specs.Run.{IsReached, run_from, run_of};
+ghost use Rattle.gt_machine.specs.Shown.{ShowsOwn};
 ghost use Rattle.gt_machine.specs.Sound.{IsSound};
 ghost use Rattle.gt_machine.specs.Step.{step_of};
 ghost use Rattle.gt_setup.specs.Setup.{Setup};
 ghost use Rattle.gt_types.specs.Event.{is_recordable};
+ghost use Rattle.gt_types.specs.declared.command.Command.{Command};
 ghost use Rattle.gt_types.specs.declared.event.Event.{Event};
 
 /// The state that a history leads to is sound.
@@ -51,4 +57,23 @@ pub fn steps_are_recordable()
     ensures { (setup : Setup) (m next : MachineState) (event : Event)
         → step_of setup m event ≡ Some next
         → IsTrue (is_recordable (length setup.collections) event) }
+{}
+
+/// An identifier names a number exactly where the desk makes it of this number.
+pub fn identifiers_name_what_is_made()
+    ensures { NamesWhatIsMade }
+{}
+
+/// No reply shows what isn't the caller's: its tasks are, its successes and skipped rows are of the caller's tasks, and its
+/// access rules are of collections that the caller owns.
+pub fn replies_show_what_is_the_callers()
+    ensures { (setup : Setup) (m : MachineState) (identity : List ℕ) (command : Command) (now : ℕ)
+        → IsReached setup m
+        → ShowsOwn setup m identity (said (answer_of setup m identity command now)) }
+{}
+
+/// Pages join: those of one limit, one after another from the first row on, are the whole list, each row once.
+pub fn pages_join<T>()
+    ensures { (limit pages : ℕ) (rows : List T)
+        → length rows ≤ pages * limit → joined_pages limit pages 0 rows ≡ rows }
 {}

@@ -8,18 +8,24 @@ mod change;
 mod commit;
 mod decide;
 mod decision;
+mod documents;
 mod forms;
 mod laws;
 mod line;
+mod lists;
+mod named;
 mod plan;
+mod rule_answers;
 mod state;
 mod take;
+mod task_answers;
 
 pub use change::{Change, PlanFault, Prepared};
 pub use decision::Decision;
 pub use laws::{
-    empty_states_are_reached, runs_are_sound, runs_go_on, runs_have_fronts, steps_are_recordable,
-    steps_stay_reached,
+    empty_states_are_reached, identifiers_name_what_is_made, pages_join,
+    replies_show_what_is_the_callers, runs_are_sound, runs_go_on, runs_have_fronts,
+    steps_are_recordable, steps_stay_reached,
 };
 pub use line::TaskLine;
 pub use state::State;

@@ -120,7 +120,7 @@ impl State {
     }
 
     /// Whether there is room for a row of access rules more; ended rows count.
-    fn has_room(&self) -> bool
+    pub(crate) fn has_room(&self) -> bool
         ensures { result ≡ has_room self.now.machine.access }
     {
         self.access.rows().len() < MAX_RULES

@@ -3,4 +3,5 @@ mod Counting
 mod IndexLemmas
 mod KeptLemmas
 mod NumberLemmas
+mod PlaceLemmas
 mod TallyLemmas

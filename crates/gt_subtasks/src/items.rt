@@ -1,11 +1,12 @@
 ghost use Rattle.std.specs.Option.{option_copied};
 ghost use Rattle.std.specs.HashMap.{get, spare};
-ghost use Rattle.std.specs.Prelude.{◌≡◌, ◌≤◌, ◌<◌, ◌+◌, ◌++◌, ◌∷◌, ◌^◌, [], IfOk, IsSome, OnOk, Some, cond, length, nat_eq, ℕ};
+ghost use Rattle.std.specs.Prelude.{◌≡◌, ◌≤◌, ◌<◌, ◌+◌, ◌++◌, ◌∷◌, ◌^◌, [], IfOk, IsSome, OnOk, Some, cond, length, map, nat_eq, slice_get, ℕ};
+ghost use Rattle.std.specs.List.{filter_map};
 ghost use Rattle.gt_index.specs.Index.{places_where};
 ghost use Rattle.gt_values.specs.Rows.{changed_at, row_at};
 ghost use Rattle.gt_subtasks.specs.Counters.{counters_of};
 ghost use Rattle.gt_subtasks.specs.Growth.{first_items, numbered};
-ghost use Rattle.gt_subtasks.specs.Item.{is_of_task};
+ghost use Rattle.gt_subtasks.specs.Item.{is_of_task, items_of};
 ghost use Rattle.gt_subtasks.specs.Kept.{IsWithin};
 ghost use Rattle.gt_subtasks.specs.Setting.{set_item};
 ghost use Rattle.gt_subtasks.specs.Tally.{tally_of};
@@ -93,6 +94,15 @@ impl Items {
         ensures { option_copied result ≡ row_at self.now.rows item }
     {
         self.rows.row(item)
+    }
+
+    /// The task's items, in order. Passes over no others.
+    #[tactic(auto, using(crate::proofs::PlaceLemmas::rows_where))]
+    pub fn of_task(&self, alloc: Global, task: u64) -> Result<Vec<&Item>, AllocError>
+        ensures { IfOk result (λ items. map (λ item. item.now) items.items
+            ≡ items_of task self.now.rows) }
+    {
+        rows_at(alloc, self.rows.as_slice(), self.places_of(task))
     }
 
     /// The places in `rows`, counted from 0, of the task's items, in order.
@@ -213,6 +223,31 @@ impl Items {
         let tally = others.with(Tally::of(row));
         put_tally(&mut self.tallies, task, tally);
     }
+}
+
+// The rows at these places.
+fn rows_at<'a>(
+    alloc: Global,
+    rows: &'a [Item],
+    places: &[u32],
+) -> Result<Vec<&'a Item>, AllocError>
+    ensures { IfOk result (λ found. map (λ item. item.now) found.items
+        ≡ filter_map (slice_get rows.now) places.now) }
+{
+    let mut found = Vec::new(alloc);
+    for place in places {
+        if let Some(row) = row_in(rows, *place) {
+            found.push(row)?;
+        }
+    }
+    Ok(found)
+}
+
+// The row at the place.
+fn row_in<'a>(rows: &'a [Item], place: u32) -> Option<&'a Item>
+    ensures { option_copied result ≡ slice_get rows.now place }
+{
+    rows.get(place as usize)
 }
 
 // Writes the running numbers of a task that has items.
