@@ -226,11 +226,7 @@ impl Items {
 }
 
 // The rows at these places.
-fn rows_at<'a>(
-    alloc: Global,
-    rows: &'a [Item],
-    places: &[u32],
-) -> Result<Vec<&'a Item>, AllocError>
+fn rows_at<'a>(alloc: Global, rows: &'a [Item], places: &[u32]) -> Result<Vec<&'a Item>, AllocError>
     ensures { IfOk result (λ found. map (λ item. item.now) found.items
         ≡ filter_map (slice_get rows.now) places.now) }
 {
