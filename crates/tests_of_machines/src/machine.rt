@@ -11,12 +11,12 @@ use gt_values::{Id, Moment, Sequence};
 use std::alloc::{AllocError, Global};
 use std::test::Fail;
 
-const ANN: u8 = 0xa1;
+pub(crate) const ANN: u8 = 0xa1;
 
-const BOB: u8 = 0xb2;
+pub(crate) const BOB: u8 = 0xb2;
 
-// Two identities and two collections.
-const SETUP: &[u8] = b"namespace = 7
+// Two identities and three collections, of which the last is Bob's.
+pub(crate) const SETUP: &[u8] = b"namespace = 7
 identity = [
 { id = \"00000000-0000-4000-8000-0000000000a1\", name = \"ann\", tokens = [], groups = [] },
 { id = \"00000000-0000-4000-8000-0000000000b2\", name = \"bob\", tokens = [], groups = [] },
@@ -24,6 +24,7 @@ identity = [
 collection = [
 { id = \"00000000-0000-4000-8000-0000000000c0\", name = \"Lab\", owner = \"00000000-0000-4000-8000-0000000000a1\", home = \"/\" },
 { id = \"00000000-0000-4000-8000-0000000000c1\", name = \"Store\", owner = \"00000000-0000-4000-8000-0000000000a1\", home = \"/\" },
+{ id = \"00000000-0000-4000-8000-0000000000c2\", name = \"Vault\", owner = \"00000000-0000-4000-8000-0000000000b2\", home = \"/\" },
 ]
 ";
 
@@ -52,7 +53,7 @@ const STEPS: [Step; 10] = [
     Step::EndRule,
 ];
 
-fn id(last: u8) -> Id {
+pub(crate) fn id(last: u8) -> Id {
     Id::from_bytes([0, 0, 0, 0, 0, 0, 0x40, 0, 0x80, 0, 0, 0, 0, 0, 0, last])
 }
 
@@ -61,7 +62,7 @@ fn path(alloc: Global) -> Result<Path, Fail> {
 }
 
 // A transfer of one path, so many times, to the same place on the other collection.
-fn transfer(alloc: Global, times: usize) -> Result<TransferSpec, Fail> {
+pub(crate) fn transfer(alloc: Global, times: usize) -> Result<TransferSpec, Fail> {
     let mut entries = Vec::new(alloc);
     for _ in 0..times {
         entries.push(TransferEntry {
