@@ -1,6 +1,7 @@
 // Scripts of requests: what each is answered, as the status and the bytes of its document.
 ghost use Rattle.std.specs.Prelude.{◌≡◌, IfOk, IsTrue, length};
 ghost use Rattle.gt_machine.specs.Run.{IsReached};
+ghost use Rattle.gt_types.specs.Command as page;
 ghost use Rattle.gt_types.specs.Command.{is_command};
 
 use crate::machine::{ANN, BOB, SETUP, id, transfer};
@@ -336,18 +337,18 @@ fn is_within(command: &Command) -> bool
     ensures { IsTrue result → IsTrue (is_command 3 command.now) }
 {
     match command {
-        Command::ListTasks { limit, offset: _ } => is_limit(*limit),
+        Command::ListTasks { limit, offset } => is_page(*limit, *offset),
         Command::ShowTask { task } => task.is_id(),
         Command::ListSuccesses {
             task,
             limit,
-            offset: _,
-        } => task.is_id() && is_limit(*limit),
+            offset,
+        } => task.is_id() && is_page(*limit, *offset),
         Command::ListSkipped {
             task,
             limit,
-            offset: _,
-        } => task.is_id() && is_limit(*limit),
+            offset,
+        } => task.is_id() && is_page(*limit, *offset),
         Command::ShowEndpoint { collection } => *collection < 3,
         Command::ListAccess { collection } => *collection < 3,
         Command::ShowAccess { collection, rule } => *collection < 3 && rule.is_id(),
@@ -361,7 +362,10 @@ fn is_within(command: &Command) -> bool
     }
 }
 
-fn is_limit(limit: u32) -> bool {
+// A page of 1 to 1,000 rows.
+fn is_page(limit: u32, _offset: u64) -> bool
+    ensures { IsTrue result → IsTrue (page.is_page limit _offset) }
+{
     1 <= limit && limit <= 1000
 }
 
