@@ -471,36 +471,33 @@ fn is_answered(alloc: Global, state: &mut State, setup: &Setup, row: Row) -> Res
     Ok(status == code && bytes.as_slice() == text.as_bytes())
 }
 
-// How many of the requests are answered so, up to the first that isn't.
-fn right(alloc: Global, state: &mut State, setup: &Setup, rows: &[Row]) -> Result<usize, Fail>
-    requires reached { IsReached setup.now state.old.machine }
+// How many of the requests are answered so from this state on, up to the first that isn't.
+fn right(alloc: Global, state: State, setup: &Setup, rows: &[Row]) -> Result<usize, Fail>
+    requires reached { IsReached setup.now state.machine }
     requires three { length setup.now.collections ≡ 3 }
-    ensures { IsReached setup.now state.new.machine }
 {
-    for at in 0..rows.len() {
-        if !is_answered(alloc, state, setup, rows[at])? {
+    let mut state = state;
+    let mut at = 0;
+    for row in rows {
+        if !is_answered(alloc, &mut state, setup, *row)? {
             return Ok(at);
         }
+        at = at.saturating_add(1);
     }
-    Ok(rows.len())
+    Ok(at)
 }
 
-// Asks the same so often.
-fn repeated(
-    alloc: Global,
-    state: &mut State,
-    setup: &Setup,
-    ask: Ask,
-    times: u32,
-) -> Result<(), Fail>
-    requires reached { IsReached setup.now state.old.machine }
+// The state after Ann asked the same so often.
+fn repeated(alloc: Global, state: State, setup: &Setup, ask: Ask, times: u32) -> Result<State, Fail>
+    requires reached { IsReached setup.now state.machine }
     requires three { length setup.now.collections ≡ 3 }
-    ensures { IsReached setup.now state.new.machine }
+    ensures { IfOk result (λ after. IsReached setup.now after.machine) }
 {
+    let mut state = state;
     for _ in 0..times {
-        let _ = answered(alloc, state, setup, ANN, ask)?;
+        let _ = answered(alloc, &mut state, setup, ANN, ask)?;
     }
-    Ok(())
+    Ok(state)
 }
 
 fn setup_of_three(alloc: Global) -> Result<Setup, Fail>
@@ -518,8 +515,7 @@ fn setup_of_three(alloc: Global) -> Result<Setup, Fail>
 fn right_from_start(alloc: Global, rows: &[Row]) -> Result<usize, Fail> {
     let setup = setup_of_three(alloc)?;
     empty_states_are_reached();
-    let mut state = State::new(alloc, setup.namespace());
-    right(alloc, &mut state, &setup, rows)
+    right(alloc, State::new(alloc, setup.namespace()), &setup, rows)
 }
 
 #[test]
@@ -543,10 +539,10 @@ fn rules_are_listed_by_number(rt: HostRuntime) -> Result<(), Fail> {
 fn right_where_rules_are_full(alloc: Global) -> Result<usize, Fail> {
     let setup = setup_of_three(alloc)?;
     empty_states_are_reached();
-    let mut state = State::new(alloc, setup.namespace());
-    repeated(alloc, &mut state, &setup, Ask::Add(1, "/e", false), 1)?;
-    repeated(alloc, &mut state, &setup, Ask::Replace(1, 1, true), 9_999)?;
-    right(alloc, &mut state, &setup, &ON_FULL_RULES)
+    let state = State::new(alloc, setup.namespace());
+    let state = repeated(alloc, state, &setup, Ask::Add(1, "/e", false), 1)?;
+    let state = repeated(alloc, state, &setup, Ask::Replace(1, 1, true), 9_999)?;
+    right(alloc, state, &setup, &ON_FULL_RULES)
 }
 
 #[test]
