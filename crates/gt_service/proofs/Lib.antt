@@ -1,0 +1,4 @@
+mod Shapes
+mod GroundLemmas
+mod CallLemmas
+mod MakesLemmas
