@@ -1,14 +1,14 @@
 -- The first row that pauses an act, by its place.
-use Rattle.std.proofs.Common.{Bool, List, None, Option, Some, [], ap, arith, cond, false, find, is_none, min, refl, slice_get, sym, true, ℕ, ◌&&◌, ◌+◌, ◌<◌, ◌∙◌, ◌∷◌, ◌≡◌, ◌≤◌, ◌||◌}
-use Rattle.std.proofs.lemmas.Bool.{and_right, le-ltb, lt-ltb}
-use Rattle.std.specs.Option.{option_eq, option_map, option_map_or}
-use Rattle.std.specs.Cmp.{unsigned_ties}
-use Rattle.std.specs.Ordering.{is_eq, nat_cmp, ordering_then}
+use Rattle.std.proofs.Common.{Bool, List, None, Option, Some, [], ap, arith, cond, false, find, is_none, min, not, refl, slice_get, suc, sym, true, zero, ℕ, ◌&&◌, ◌+◌, ◌<◌, ◌∙◌, ◌∷◌, ◌≡◌, ◌≢◌, ◌≤◌, ◌||◌}
+use Rattle.std.proofs.lemmas.Bool.{and_from, and_parts, and_right, false_from_ne_true, le-ltb, lt-ltb, ltb-true}
+use Rattle.std.specs.Option.{option_cmp, option_eq, option_map, option_map_or}
+use Rattle.std.specs.Cmp.{IsTotalOrder, tied_back, unsigned_ties}
+use Rattle.std.specs.Ordering.{is_eq, is_lt, nat_cmp, ordering_reverse, ordering_then}
 use Rattle.std.specs.Prelude.{IfSome, nat_eq, nat_lt}
 use Rattle.std.specs.Str.{bytes_eq}
 use Rattle.std.specs.declared.cmp.Ordering.{Ordering}
 use Rattle.std.specs.declared.cmp.Ordering.TheVariants.{Equal, Greater, Less}
-use Rattle.gt_index.specs.Index.{places_from, places_where}
+use Rattle.gt_index.specs.Index.{IsFirst, has_key, is_from, passes_at, places_from, places_where}
 use Rattle.gt_pauses.specs.Indexed.{IsNumberedFrom, NoneAfter, is_live_with, is_row_for, lesser}
 use Rattle.gt_pauses.specs.Paused.{has_act, pauses}
 use Rattle.gt_pauses.specs.Rule.{is_live_pause}
@@ -40,6 +40,120 @@ key_is order ties act collection identity row =
     ∙ ap (λ b. b && is_eq (order row.spec.identity identity)) (sym (unsigned_ties row.spec.collection collection))
     ∙ ap (λ b. nat_eq row.spec.collection collection && b) (ties row.spec.identity identity))
     ∙ and_assoc (is_live_with act row) (nat_eq row.spec.collection collection) (option_eq bytes_eq row.spec.identity identity)
+
+-- the first place whose row passes, none before it
+first_place : {R : Type 0} (n i place : ℕ) (test : R → Bool) (rows : List R) → place ≡ n + i → passes_at test rows i ≡ true
+    → ((j : ℕ) → j < i → passes_at test rows j ≡ false) → slice_get (places_from n test rows) 0 ≡ Some place
+first_place n i place test [] e passes others = cc
+first_place n zero place test (row ∷ rows) e passes others =
+    let own : n ≡ place = omega arith in
+    rw passes (ap Some own)
+first_place n (suc i) place test (row ∷ rows) e passes others =
+    rw (others 0 (omega arith)) (first_place (n + 1) i place test rows (omega arith) passes (λ j below. others (suc j) (omega arith)))
+
+no_place : {R : Type 0} (n : ℕ) (test : R → Bool) (rows : List R) → ((j : ℕ) → passes_at test rows j ≡ false) → slice_get (places_from n test rows) 0 ≡ None
+no_place n test [] others = refl
+no_place n test (row ∷ rows) others = rw (others 0) (no_place (n + 1) test rows (λ j. others (suc j)))
+
+eq_is : (r : Ordering) → is_eq r ≡ true → r ≡ Equal
+eq_is Less e = cc
+eq_is Equal e = refl
+eq_is Greater e = cc
+
+tied_from : (r : Ordering) → is_eq r ≡ true → not (is_lt r) ≡ true
+tied_from Less e = cc
+tied_from Equal e = refl
+tied_from Greater e = refl
+
+not_before : (r : Ordering) (a b : ℕ) → not (is_lt r) ≡ true → is_eq r ≡ false → is_lt (ordering_then r (nat_cmp a b)) ≡ false
+not_before Less a b from other = cc
+not_before Equal a b from other = cc
+not_before Greater a b from other = refl
+
+less_is : (a b : ℕ) → is_lt (nat_cmp a b) ≡ true → a < b
+less_is a b h = ltb-true a b (of_test (nat_lt a b) (nat_eq a b) h)
+  where
+    of_test : (s t : Bool) → is_lt (cond s Less (cond t Equal Greater)) ≡ true → s ≡ true
+    of_test true t e = refl
+    of_test false true e = cc
+    of_test false false e = cc
+
+module _ {R K : Type 0} (cmp : K → K → Ordering) (o : IsTotalOrder cmp) (key : R → K) (k : K) (keeps : R → Bool) where
+  abbrev has : R → Bool
+  has row = keeps row && has_key cmp key k row
+
+  abbrev from : R → Bool
+  from row = keeps row && is_from cmp key k row
+
+  from_has : (found : Option R) → option_map_or has found false ≡ true → option_map_or from found false ≡ true
+  from_has None e = e
+  from_has (Some row) e =
+      let parts = and_parts (keeps row) (has_key cmp key k row) e in
+      and_from (keeps row) (is_from cmp key k row) parts.0 (tied_from (cmp (key row) k) parts.1)
+
+  -- of two rows with the key, the one at the lesser place comes before the other
+  tied_before : (row : R) (found : Option R) (a b : ℕ) → is_eq (cmp (key row) k) ≡ true → option_map_or has found false ≡ true
+      → is_lt (ordering_then (option_cmp cmp (Some (key row)) (option_map key found)) (nat_cmp a b)) ≡ true → a < b
+  tied_before row None a b own passes before = cc
+  tied_before row (Some other) a b own passes before =
+      let parts = and_parts (keeps other) (has_key cmp key k other) passes in
+      let tied : cmp (key row) (key other) ≡ Equal =
+      o.congr (key row) k (key other) (eq_is (cmp (key row) k) own) ∙ tied_back o (key other) k (eq_is (cmp (key other) k) parts.1) in
+      less_is a b (sym (ap (λ r. is_lt (ordering_then r (nat_cmp a b))) tied) ∙ before)
+
+  -- a row above the key comes before none with the key
+  above_before : (row : R) (found : Option R) (a b : ℕ) → not (is_lt (cmp (key row) k)) ≡ true → is_eq (cmp (key row) k) ≡ false
+      → option_map_or has found false ≡ true → is_lt (ordering_then (option_cmp cmp (Some (key row)) (option_map key found)) (nat_cmp a b)) ≡ false
+  above_before row None a b above differs passes = cc
+  above_before row (Some other) a b above differs passes =
+      let parts = and_parts (keeps other) (has_key cmp key k other) passes in
+      let same : cmp (key row) (key other) ≡ cmp (key row) k =
+      o.antisymm (key row) (key other)
+      ∙ ap ordering_reverse (o.congr (key other) k (key row) (eq_is (cmp (key other) k) parts.1))
+      ∙ sym (o.antisymm (key row) k) in
+      ap (λ r. is_lt (ordering_then r (nat_cmp a b))) same ∙ not_before (cmp (key row) k) a b above differs
+
+  -- no row has the key where none has one that is at least it
+  pub first_none : (rows : List R) → ((place : ℕ) → passes_at from rows place ≡ false) → slice_get (places_where has rows) 0 ≡ None
+  first_none rows none =
+      no_place 0 has rows
+      (λ j. false_from_ne_true (passes_at has rows j) (λ passes. let other = from_has (slice_get rows j) passes in let miss = none j in cc))
+
+  -- the first row that isn't below the key is the first with the key, if it has the key
+  pub first_own : (rows : List R) (place : ℕ) (row : R) → IsFirst cmp key from rows place → slice_get rows place ≡ Some row
+      → is_eq (cmp (key row) k) ≡ true → slice_get (places_where has rows) 0 ≡ Some place
+  first_own rows place row is found own =
+      let parts = and_parts (keeps row) (is_from cmp key k row) (rw found at is.passes) in
+      let passes : passes_at has rows place ≡ true = rw found (and_from (keeps row) (has_key cmp key k row) parts.0 own) in
+      first_place 0 place place has rows (omega arith) passes
+      (λ j below.
+      false_from_ne_true (passes_at has rows j)
+      (λ hit.
+      let before = is.first j (from_has (slice_get rows j) hit) (λ e. omega arith) in
+      let less : place < j = tied_before row (slice_get rows j) place j own hit (rw found at before) in
+      omega arith))
+
+  -- no row has the key, if the first that isn't below it has another
+  pub first_other : (rows : List R) (place : ℕ) (row : R) → IsFirst cmp key from rows place → slice_get rows place ≡ Some row
+      → is_eq (cmp (key row) k) ≡ false → slice_get (places_where has rows) 0 ≡ None
+  first_other rows place row is found differs =
+      let parts = and_parts (keeps row) (is_from cmp key k row) (rw found at is.passes) in
+      no_place 0 has rows
+      (λ j.
+      false_from_ne_true (passes_at has rows j)
+      (λ hit.
+      let apart : j ≢ place = λ e.
+      let own : passes_at has rows place ≡ true = rw e at hit in
+      let two = and_parts (keeps row) (has_key cmp key k row) (rw found at own) in
+      cc in
+      let before = is.first j (from_has (slice_get rows j) hit) apart in
+      let none = above_before row (slice_get rows j) place j parts.1 differs hit in
+      let some : is_lt (ordering_then (option_cmp cmp (Some (key row)) (option_map key (slice_get rows j))) (nat_cmp place j)) ≡ true = rw found at before in
+      cc))
+
+  -- the first has a row
+  pub first_there : (rows : List R) (place : ℕ) → IsFirst cmp key from rows place → slice_get rows place ≡ None → ⊥
+  first_there rows place is none = let passes = rw none at is.passes in cc
 
 -- no place is before the first
 first_from-le : (n : ℕ) (p : PauseRow → Bool) (rows : List PauseRow) → IfSome (slice_get (places_from n p rows) 0) (λ place. n ≤ place)

@@ -7,7 +7,7 @@ ghost use Rattle.gt_pauses.specs.declared.row.PauseAct.{PauseAct as Act};
 use crate::key::{Named, RuleKey};
 use crate::look_up::has_act;
 use crate::row::{PauseAct, PauseRow};
-use gt_index::{Index, Keyed};
+use gt_index::{Asked, Index, Keyed};
 use gt_values::Id;
 use std::alloc::{AllocError, Global};
 
@@ -156,7 +156,13 @@ fn first_of(
         collection,
         identity,
     };
-    live.run(rows, &asked).first().copied()
+    let place = live.first_from(rows, &asked)?;
+    let row = rows.get(place as usize)?;
+    if asked.standing(row).is_eq() {
+        Some(place)
+    } else {
+        None
+    }
 }
 
 // The lesser of the two, of those that there are.
