@@ -6,11 +6,12 @@ use Rattle.gt_desk.specs.Desk.{events_of}
 use Rattle.gt_desk.specs.Replay.{IsBadAs, IsBadAt, Replays}
 use Rattle.gt_desk.specs.declared.fault.OpenFault.{OpenFault}
 use Rattle.gt_desk.specs.declared.fault.OpenFault.TheVariants.{Damaged, JournalFault, OutOfMemory}
-use Rattle.gt_desk.proofs.Histories.{events_more, run_more, texts_more}
+use Rattle.gt_desk.proofs.Histories.{events_more, texts_more}
 use Rattle.gt_journal.specs.JournalText.{IsDamagedAfter}
 use Rattle.gt_journal.specs.Reading.{lists}
-use Rattle.gt_machine.specs.MachineState.{MachineState}
+use Rattle.gt_machine.specs.MachineState.{MachineState, empty_state}
 use Rattle.gt_machine.specs.Run.{run_of}
+use Rattle.gt_machine.specs.RunFacts.{run_more}
 use Rattle.gt_machine.specs.Step.{step_of}
 use Rattle.gt_records.specs.ReadingEvents.{event_of}
 use Rattle.gt_records.specs.RecordText.{record_text}
@@ -32,7 +33,7 @@ replays_more setup bodies i body m last event so_far inside here is again step =
     subst (λ bs. Replays setup bs last) (sym more) (record {
       texts = texts_more event again (take i bodies) so_far.texts;
       runs = ap (λ (events : List Event). run_of setup events) (events_more event again (take i bodies))
-          ∙ run_more setup (events_of (take i bodies)) event m last so_far.runs step;
+          ∙ run_more setup (empty_state setup.namespace) m last (events_of (take i bodies)) event so_far.runs step;
     })
 
 -- a bad body behind those that replay

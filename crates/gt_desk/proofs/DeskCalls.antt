@@ -5,10 +5,11 @@ use Rattle.gt_desk.specs.Desk.{Desk, HasRecorded, HasSettled, IsCall, IsSameLedg
 use Rattle.gt_desk.specs.History.{Ledger, StandsDuring, StandsWith}
 use Rattle.gt_desk.specs.declared.fault.DeskFault.{DeskFault}
 use Rattle.gt_desk.specs.declared.fault.DeskFault.TheVariants as faults
-use Rattle.gt_desk.proofs.Histories.{run_append, run_none}
+use Rattle.gt_desk.proofs.Histories.{run_none}
 use Rattle.gt_desk.proofs.Standing.{stands_before}
 use Rattle.gt_disk.specs.Disk.{DiskWords}
 use Rattle.gt_machine.specs.MachineState.{MachineState}
+use Rattle.gt_machine.specs.RunFacts.{run_join}
 use Rattle.gt_machine.specs.declared.decision.Decision.{Decision}
 use Rattle.gt_machine.specs.declared.decision.Decision.TheVariants.{Do, Say}
 use Rattle.gt_setup.specs.Setup.{Setup}
@@ -22,7 +23,7 @@ module _ {D A : Type 0} (words : DiskWords D) (decide : MachineState → Decisio
   both settled decision is result recorded same honest = record {
     moved = settled.kept ++ recorded.made;
     call = record {
-      runs = run_append old.setup old.ledger.machine mid.ledger.machine new.ledger.machine settled.kept recorded.made settled.runs (rw same at recorded.runs);
+      runs = run_join old.setup old.ledger.machine mid.ledger.machine new.ledger.machine settled.kept recorded.made settled.runs (rw same at recorded.runs);
       comes = inl (record {
         kept = settled.kept;
         settles = settled.settles;

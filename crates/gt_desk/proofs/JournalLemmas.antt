@@ -5,8 +5,8 @@ use Rattle.std.specs.Prelude.{IfSome, is_some}
 use Rattle.gt_desk.specs.Desk.{Agrees, Desk, HasRecorded, HasSettled, IsConsistent, IsPending, desk_of, event_in, events_of}
 use Rattle.gt_desk.specs.DeskCall.{MayCount}
 use Rattle.gt_desk.specs.History.{Ledger, Stands, StandsDuring, StandsFor, StandsWith}
-use Rattle.gt_desk.proofs.Histories.{events_more, run_more, run_one}
-use Rattle.gt_desk.proofs.Standing.{agrees_more, agrees_same, one_kept_of, reached_more, stands_for, stands_longer}
+use Rattle.gt_desk.proofs.Histories.{events_more}
+use Rattle.gt_desk.proofs.Standing.{agrees_more, agrees_same, one_kept_of, stands_for, stands_longer}
 use Rattle.gt_desk.specs.declared.fault.DeskFault.TheVariants.{JournalFault}
 use Rattle.gt_disk.specs.Disk.{DiskWords, LeavesOnly}
 use Rattle.gt_disk.specs.Moments.{weaker}
@@ -15,8 +15,9 @@ use Rattle.gt_journal.specs.Journal.{IsSameJournal, Journal, Rests}
 use Rattle.gt_journal.specs.JournalText.{IsJournalText, IsTextWithDoubt}
 use Rattle.gt_journal.specs.declared.settled.Settled.TheVariants.{Kept}
 use Rattle.gt_machine.specs.Change.{Held}
-use Rattle.gt_machine.specs.MachineState.{MachineState}
+use Rattle.gt_machine.specs.MachineState.{MachineState, empty_state}
 use Rattle.gt_machine.specs.Run.{IsReached, run_of}
+use Rattle.gt_machine.specs.RunFacts.{reached_more, run_more, run_one}
 use Rattle.gt_machine.specs.Sound.{IsSound}
 use Rattle.gt_machine.specs.Step.{step_of}
 use Rattle.gt_machine.specs.declared.change.Change.{Change}
@@ -31,7 +32,7 @@ pub counted : (setup : Setup) (m next : MachineState) (event : Event) → ((hist
     → IsReached setup m → step_of setup m event ≡ Some next → next.events ≡ m.events + 1
 counted setup m next event law (history, runs) step =
     let now = (law history m runs).counted.events in
-    let later = (law (history ++ event ∷ []) next (run_more setup history event m next runs step)).counted.events in
+    let later = (law (history ++ event ∷ []) next (run_more setup (empty_state setup.namespace) m next history event runs step)).counted.events in
     omega (arith, now, later, length-append history (event ∷ []))
 
 -- a body that could not be added, by whether one is in doubt
@@ -74,7 +75,7 @@ module _ {D : Type 0} (words : DiskWords D) (setup : Setup) (state : Held) (doub
     pub added_recorded : (left : Option Change) → left ≡ None → HasRecorded words (Do event (tt {0})) (desk_of setup state doubt old) (Ok (tt {0})) (desk_of setup next left new)
     added_recorded left none = record {
       made = event ∷ [];
-      runs = run_one setup event state.machine next.machine step;
+      runs = run_one setup state.machine next.machine event step;
       history = added_history;
       records = (refl, refl, ap event_in none);
     }
@@ -100,7 +101,7 @@ module _ {D : Type 0} (words : DiskWords D) (setup : Setup) (state : Held) (doub
     kept_settled next step left none = record {
       kept = change.event ∷ [];
       settles = one_kept_of (event_in doubt) change.event (ap event_in is);
-      runs = run_one setup change.event state.machine next.machine step;
+      runs = run_one setup state.machine next.machine change.event step;
       history = added_history change.event again kept_added next step;
       clear = ap event_in none;
     }

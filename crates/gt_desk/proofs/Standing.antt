@@ -1,19 +1,20 @@
 -- From what the journal keeps to what the desk promises.
-use Rattle.std.proofs.Common.{◌≡◌, ℕ, ◌⊎◌, inl, inr, ⊎_elim, List, [], ◌∷◌, ◌++◌, Option, None, Some, IsSome, map, append-nil, refl, sym, ap, subst, ◌∙◌}
+use Rattle.std.proofs.Common.{◌≡◌, ℕ, inl, inr, ⊎_elim, List, [], ◌∷◌, ◌++◌, Option, None, Some, IsSome, map, append-nil, refl, sym, ap, subst, ◌∙◌}
 use Rattle.std.specs.Option.{option_map}
 use Rattle.std.proofs.lemmas.List.{map-append}
 use Rattle.std.specs.Prelude.{IfSome, IsTrue}
 use Rattle.gt_desk.specs.Desk.{Agrees, IsConsistent, IsPending, event_in, events_of}
 use Rattle.gt_desk.specs.DeskCall.{IsKept}
 use Rattle.gt_desk.specs.History.{StandsFor, StandsWith}
-use Rattle.gt_desk.proofs.Histories.{events_more, run_more, runs_through, texts_more}
+use Rattle.gt_desk.proofs.Histories.{events_more, runs_through, texts_more}
 use Rattle.gt_causes.specs.Outcomes.{NoMore}
 use Rattle.gt_journal.specs.JournalText.{IsJournalText, IsTextWithDoubt}
 use Rattle.gt_disk.specs.Disk.{DiskWords}
 use Rattle.gt_journal.specs.Journal.{Journal}
 use Rattle.gt_machine.specs.Change.{Held}
-use Rattle.gt_machine.specs.MachineState.{MachineState}
-use Rattle.gt_machine.specs.Run.{IsReached, run_of}
+use Rattle.gt_machine.specs.MachineState.{MachineState, empty_state}
+use Rattle.gt_machine.specs.Run.{run_of}
+use Rattle.gt_machine.specs.RunFacts.{run_more}
 use Rattle.gt_machine.specs.Step.{step_of}
 use Rattle.gt_machine.specs.declared.change.Change.{Change}
 use Rattle.gt_records.specs.ReadingEvents.{event_of}
@@ -37,7 +38,7 @@ module _ (setup : Setup) (bodies : List (List ℕ)) (m : MachineState) (texts : 
   stands_longer event last step c file = record {
     texts = subst (λ bs. IsJournalText bs c)
         (ap (λ (bs : List (List ℕ)). bs ++ record_text event ∷ []) texts ∙ sym (map-append record_text (events_of bodies) (event ∷ []))) file;
-    runs = runs_through setup (events_of bodies ++ event ∷ []) last (run_more setup (events_of bodies) event m last runs step);
+    runs = runs_through setup (events_of bodies ++ event ∷ []) last (run_more setup (empty_state setup.namespace) m last (events_of bodies) event runs step);
   }
 
   -- with the event in doubt or without
@@ -83,7 +84,7 @@ module _ {D : Type 0} (words : DiskWords D) (setup : Setup) where
     agrees_more event last again step more = record {
       texts = more ∙ texts_more event again old.bodies agrees.texts ∙ ap (λ (bs : List (List ℕ)). map record_text (events_of bs)) (sym more);
       runs = ap (λ (bs : List (List ℕ)). run_of setup (events_of bs)) more ∙ ap (λ (events : List Event). run_of setup events) (events_more event again old.bodies)
-          ∙ run_more setup (events_of old.bodies) event m last agrees.runs step;
+          ∙ run_more setup (empty_state setup.namespace) m last (events_of old.bodies) event agrees.runs step;
       images = images;
     }
 
@@ -97,10 +98,6 @@ stands_before setup None old kept is c stands = subst (λ h. StandsFor setup h c
 stands_before setup (Some event) old kept is c stands =
     ⊎_elim (λ none. inl (subst (λ h. StandsFor setup h c) (ap (λ (k : List Event). old ++ k) none ∙ append-nil old) stands))
     (λ one. inr (subst (λ k. StandsFor setup (old ++ k) c) one stands)) is
-
--- one step more is reached too
-pub reached_more : (setup : Setup) (m last : MachineState) (event : Event) → IsReached setup m → step_of setup m event ≡ Some last → IsReached setup last
-reached_more setup m last event (history, runs) step = (history ++ event ∷ [], run_more setup history event m last runs step)
 
 -- no change is kept where no event is in doubt
 pub no_change : (doubt : Option Change) → event_in doubt ≡ None → doubt ≡ None

@@ -8,6 +8,7 @@ pub mod Named
 pub mod RuleAnswer
 pub mod RuleSteps
 pub mod Run
+pub mod RunFacts
 pub mod Shown
 pub mod Sound
 pub mod SoundRows

@@ -1,4 +1,4 @@
-use Rattle.gt_machine.proofs.Runs.{run_join, run_more}
+use Rattle.gt_machine.specs.RunFacts.{run_join, run_more}
 use Rattle.gt_machine.specs.MachineState.{empty_state}
 use Rattle.gt_machine.proofs.laws.runs_go_on.Goals as goal
 

@@ -1,5 +1,5 @@
 use Rattle.std.proofs.Common.{[], ◌∷◌}
-use Rattle.gt_machine.proofs.Runs.{one_step, run_split}
+use Rattle.gt_machine.specs.RunFacts.{one_step, run_split}
 use Rattle.gt_machine.specs.MachineState.{empty_state}
 use Rattle.gt_machine.proofs.laws.runs_have_fronts.Goals as goal
 

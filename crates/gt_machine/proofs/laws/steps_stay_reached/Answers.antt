@@ -1,4 +1,4 @@
-use Rattle.gt_machine.proofs.Runs.{reached_more}
+use Rattle.gt_machine.specs.RunFacts.{reached_more}
 use Rattle.gt_machine.proofs.laws.steps_stay_reached.Goals as goal
 
 pub returns : goal.returns

@@ -2,7 +2,8 @@
 use Rattle.std.proofs.Common.{◌≡◌, Some, ap, arith, sym, ◌∙◌}
 use Rattle.gt_machine.specs.MachineState.{MachineState}
 use Rattle.gt_machine.specs.Step.{step_of}
-use Rattle.gt_machine.proofs.Runs.{reached_more, step_is}
+use Rattle.gt_machine.proofs.Runs.{step_is}
+use Rattle.gt_machine.specs.RunFacts.{reached_more}
 use Rattle.gt_machine.proofs.state.State.take_event.Goals as goal
 
 pub returns-clause-reached : goal.returns-clause-reached
