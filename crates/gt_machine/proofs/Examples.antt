@@ -32,10 +32,10 @@ use Rattle.gt_types.specs.declared.spec.TransferSpec.{TransferSpec}
 abbrev pub id : ℕ → List ℕ
 id n = 0 ∷ 0 ∷ 0 ∷ 0 ∷ 0 ∷ 0 ∷ 64 ∷ 0 ∷ 128 ∷ 0 ∷ 0 ∷ 0 ∷ 0 ∷ 0 ∷ 0 ∷ n ∷ []
 
-abbrev ann : List ℕ
+abbrev pub ann : List ℕ
 ann = id 161
 
-abbrev bob : List ℕ
+abbrev pub bob : List ℕ
 bob = id 177
 
 abbrev collection : ℕ → List ℕ → Collection
@@ -45,7 +45,7 @@ abbrev identity : List ℕ → SetupIdentity
 identity owner = record { who = record { identity = owner; groups = [] }; name = []; tokens = [] }
 
 -- two identities and three collections
-abbrev desk : Setup
+abbrev pub desk : Setup
 desk = record {
   namespace = 7;
   identities = identity ann ∷ identity bob ∷ [];
@@ -53,7 +53,7 @@ desk = record {
 }
 
 -- a transfer of these entries from the one collection to the other
-abbrev transfer : ℕ → ℕ → List TransferEntry → TransferSpec
+abbrev pub transfer : ℕ → ℕ → List TransferEntry → TransferSpec
 transfer source destination entries = record {
   source = source;
   destination = destination;
@@ -70,22 +70,22 @@ transfer source destination entries = record {
 }
 
 -- `/e` and `/d`
-abbrev at_e : List (List ℕ)
+abbrev pub at_e : List (List ℕ)
 at_e = (101 ∷ []) ∷ []
 
-abbrev at_d : List (List ℕ)
+abbrev pub at_d : List (List ℕ)
 at_d = (100 ∷ []) ∷ []
 
-abbrev entry : List (List ℕ) → List (List ℕ) → TransferEntry
+abbrev pub entry : List (List ℕ) → List (List ℕ) → TransferEntry
 entry source destination = record { source = source; destination = destination; recursive = None }
 
-abbrev one_file : TransferSpec
+abbrev pub one_file : TransferSpec
 one_file = transfer 0 1 (entry at_e at_e ∷ [])
 
-abbrev rule : Bool → AccessSpec
+abbrev pub rule : Bool → AccessSpec
 rule write = record { principal = Identity ann; path = at_d; write = write }
 
-abbrev at : ℕ → Happening → Event
+abbrev pub at : ℕ → Happening → Event
 at moment what = record { moment = moment; what = what }
 
 -- the counts of a state: tasks, items, issued identifiers, rows of rules, events, and the greatest moment

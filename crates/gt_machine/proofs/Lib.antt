@@ -25,3 +25,7 @@ mod ListLemmas
 mod RuleNumbers
 mod Soundness
 mod Examples
+mod ItemExamples
+mod ChangeLemmas
+mod ConcludedLemmas
+mod ConcludedSteps
