@@ -7,6 +7,7 @@ use Rattle.std.proofs.Common.{Bool, Bor, IfSome, IsAscii, IsTrue, List, None, Op
 use Rattle.std.proofs.lemmas.Bool.{and_parts}
 use Rattle.std.proofs.lemmas.Bool.Decides.{nat_tests}
 use Rattle.std.proofs.lemmas.Fmt.{IsAscii-decimal, decimal_by_steps, decimal_injective}
+use Rattle.std.proofs.lemmas.Slice.Eq.{bytes_eq-Decides}
 use Rattle.std.proofs.lemmas.Str.{IsAscii-append, IsUtf8-from_ascii}
 use Rattle.std.proofs.lemmas.Str.Ascii.{IsAscii-cons, IsAscii-nil}
 use Rattle.std.proofs.lemmas.Str.Pattern.{IsSplitOnceResult, split_after}
@@ -16,12 +17,10 @@ use Rattle.std.specs.List.{list_all}
 use Rattle.std.specs.Option.{MatchOption}
 use Rattle.std.specs.Prelude.{nat_le, nat_lt}
 use Rattle.std.specs.Str.{IsUtf8, bytes_eq}
-use Rattle.gt_script.proofs.ListLemmas.{Lacks, Lacks-append, append_cancel, same_front}
-use Rattle.gt_script.specs.CommandLine.{IsCommandText, IsSendOf, IsSendText, caller_of, is_token, most_body_bytes, route_text}
+use Rattle.gt_script.proofs.ListLemmas.{Lacks, Lacks-append, SameFront, append_cancel, same_front}
+use Rattle.gt_script.specs.CommandLine.{IsCommandText, IsSendText, is_token, is_word, most_body_bytes, no_token, token_word}
 use Rattle.gt_script.specs.declared.command_line.CommandLine.{CommandLine}
 use Rattle.gt_script.specs.declared.command_line.CommandLine.TheVariants.{End, Now, Restart, Send}
-use Rattle.gt_script.specs.declared.command_line.Route.{Route}
-use Rattle.gt_script.specs.declared.command_line.Route.TheVariants.{SubmissionId, Transfer}
 
 moment_fits : (moment : ℕ) → IsTrue (is_moment moment) → moment < 2 ^ 64
 moment_fits moment is = grind (arith, nat_tests)
@@ -66,50 +65,51 @@ literal_ascii (c ∷ text) is =
     let parts = and_parts (nat_lt c 128) (list_all (λ d. nat_lt d 128) text) is in
     IsAscii-cons c text (below_128 c parts.0) (literal_ascii text parts.1)
 
--- a caller's token is one
-is_one : (b : Bool) (o : Option (List ℕ)) (identity : List ℕ) → (if b then o else None) ≡ Some identity → b ≡ true
-is_one true o identity e = refl
-is_one false o identity e = cc
+-- what a word, a space and more lack, and are
+word_graphic : (word : List ℕ) → IsTrue (is_word word) → list_all is_ascii_graphic word ≡ true
+word_graphic word is = (and_parts (not (length word == 0)) (list_all is_ascii_graphic word) is).1
 
-second_of : (b x : Bool) → (if b then false else x) ≡ true → x ≡ true
-second_of true x e = let no : ⊥ = cc in absurd no
-second_of false x e = e
+lacks_newline : (word rest : List ℕ) → IsTrue (is_word word) → Lacks 10 rest → Lacks 10 (word ++ 32 ∷ rest)
+lacks_newline word rest is plain = Lacks-append 10 word (32 ∷ rest) (graphic_lacks 10 word (omega arith) (word_graphic word is)) ((λ e. absurd (omega (arith, e))), plain)
 
-token_graphic : (setup : Setup) (token identity : List ℕ) → caller_of setup token ≡ Some identity → list_all is_ascii_graphic token ≡ true
-token_graphic setup token identity known =
-    let one : is_token token ≡ true = is_one (is_token token) _ identity known in
-    second_of (length token == 0) (list_all is_ascii_graphic token) (second_of (bytes_eq token (codes "-")) _ one)
+all_ascii : (word rest : List ℕ) → IsTrue (is_word word) → IsAscii rest → IsAscii (word ++ 32 ∷ rest)
+all_ascii word rest is ascii = IsAscii-append word (32 ∷ rest) (graphic_ascii word (word_graphic word is)) (IsAscii-cons 32 rest (omega arith) ascii)
 
-route_lacks_newline : (route : Route) → Lacks 10 (route_text route)
-route_lacks_newline SubmissionId = literal_lacks 10 (codes "GET /v0.10/submission_id") refl
-route_lacks_newline Transfer = literal_lacks 10 (codes "POST /v0.10/transfer") refl
+-- the word for a token is one
+pub token_is_word : (token : Option (List ℕ)) → IfSome token (λ word. IsTrue (is_token word)) → IsTrue (is_word (token_word token))
+token_is_word None is = refl
+token_is_word (Some token) is = (and_parts (is_word token) (not (bytes_eq token no_token)) is).0
 
-route_ascii : (route : Route) → IsAscii (route_text route)
-route_ascii SubmissionId = literal_ascii (codes "GET /v0.10/submission_id") refl
-route_ascii Transfer = literal_ascii (codes "POST /v0.10/transfer") refl
+no_hyphen : (b : Bool) → not b ≡ true → b ≡ true → ⊥
+no_hyphen true is e = let no : ⊥ = cc in no
+no_hyphen false is e = let no : ⊥ = cc in no
+
+token_differs : (token : List ℕ) → IsTrue (is_token token) → token ≡ no_token → ⊥
+token_differs token is e = no_hyphen (bytes_eq token no_token) (and_parts (is_word token) (not (bytes_eq token no_token)) is).1 ((bytes_eq-Decides token no_token).1 e)
+
+-- a word stands for one token, or for none
+one_token : (a b : Option (List ℕ)) → IfSome a (λ word. IsTrue (is_token word)) → IfSome b (λ word. IsTrue (is_token word)) → token_word a ≡ token_word b → a ≡ b
+one_token None None p q e = refl
+one_token None (Some t) p q e = absurd (token_differs t q (sym e))
+one_token (Some s) None p q e = absurd (token_differs s p e)
+one_token (Some s) (Some t) p q e = ap (λ z. Some z) e
 
 size_fits : (size : ℕ) → size ≤ most_body_bytes → size < 2 ^ 64
 size_fits size fits = omega arith
 
-send_lacks_newline : (setup : Setup) (identity : List ℕ) (route : Route) (size : ℕ) (text : List ℕ) → IsSendText setup identity route size text → Lacks 10 text
-send_lacks_newline setup identity route size text is =
-    let graphic = token_graphic setup is.token identity is.known in
+send_lacks_newline : (token : Option (List ℕ)) (method target : List ℕ) (size : ℕ) (text : List ℕ) → IsSendText token method target size text → Lacks 10 text
+send_lacks_newline token method target size text is =
     let digits = decimal_lacks 10 size (omega arith) (size_fits size is.fits) in
-    let behind : Lacks 10 (route_text route ++ 32 ∷ decimal size) = Lacks-append 10 (route_text route) (32 ∷ decimal size) (route_lacks_newline route) ((λ e. absurd (omega (arith, e))), digits) in
-    subst (Lacks 10) (sym is.whole) (Lacks-append 10 is.token (32 ∷ (route_text route ++ 32 ∷ decimal size)) (graphic_lacks 10 is.token (omega arith) graphic) ((λ e. absurd (omega (arith, e))), behind))
+    let behind_method = lacks_newline target (decimal size) is.has_target digits in
+    let behind_token = lacks_newline method (target ++ 32 ∷ decimal size) is.has_method behind_method in
+    subst (Lacks 10) (sym is.whole) (lacks_newline (token_word token) (method ++ 32 ∷ (target ++ 32 ∷ decimal size)) (token_is_word token is.has_token) behind_token)
 
--- what follows `send ` is UTF-8
-pub send_utf8 : (setup : Setup) (identity : List ℕ) (route : Route) (size : ℕ) (text : List ℕ) → IsSendText setup identity route size text → IsUtf8 text
-send_utf8 setup identity route size text is =
-    let graphic = token_graphic setup is.token identity is.known in
+send_ascii : (token : Option (List ℕ)) (method target : List ℕ) (size : ℕ) (text : List ℕ) → IsSendText token method target size text → IsAscii text
+send_ascii token method target size text is =
     let digits = IsAscii-decimal size (size_fits size is.fits) in
-    let behind : IsAscii (route_text route ++ 32 ∷ decimal size) = IsAscii-append (route_text route) (32 ∷ decimal size) (route_ascii route) (IsAscii-cons 32 (decimal size) (omega arith) digits) in
-    let ascii : IsAscii (is.token ++ 32 ∷ (route_text route ++ 32 ∷ decimal size)) = IsAscii-append is.token (32 ∷ (route_text route ++ 32 ∷ decimal size)) (graphic_ascii is.token graphic) (IsAscii-cons 32 (route_text route ++ 32 ∷ decimal size) (omega arith) behind) in
-    IsUtf8-from_ascii text (subst (λ (s : List ℕ). IsAscii s) (sym is.whole) ascii)
-
--- a token has no space
-pub token_lacks_space : (setup : Setup) (token identity : List ℕ) → caller_of setup token ≡ Some identity → Lacks 32 token
-token_lacks_space setup token identity known = graphic_lacks 32 token (omega arith) (token_graphic setup token identity known)
+    let behind_method = all_ascii target (decimal size) is.has_target digits in
+    let behind_token = all_ascii method (target ++ 32 ∷ decimal size) is.has_method behind_method in
+    subst (λ (s : List ℕ). IsAscii s) (sym is.whole) (all_ascii (token_word token) (method ++ 32 ∷ (target ++ 32 ∷ decimal size)) (token_is_word token is.has_token) behind_token)
 
 -- a command line has no newline
 pub command_plain : (setup : Setup) (line : CommandLine) (text : List ℕ) → IsCommandText setup line text → HasNoNewline text
@@ -117,31 +117,52 @@ command_plain setup End text is = subst (Lacks 10) (sym is) (literal_lacks 10 (c
 command_plain setup (Now moment) text is =
     subst (Lacks 10) (sym is.1) (Lacks-append 10 (codes "now ") (decimal moment) (literal_lacks 10 (codes "now ") refl) (decimal_lacks 10 moment (omega arith) (moment_fits moment is.0)))
 command_plain setup Restart text is = subst (Lacks 10) (sym is) (literal_lacks 10 (codes "restart") refl)
-command_plain setup (Send identity route size) text (request, is, whole) =
-    subst (Lacks 10) (sym whole) (Lacks-append 10 (codes "send ") request (literal_lacks 10 (codes "send ") refl) (send_lacks_newline setup identity route size request is))
+command_plain setup (Send token method target size) text (request, is, whole) =
+    subst (Lacks 10) (sym whole) (Lacks-append 10 (codes "send ") request (literal_lacks 10 (codes "send ") refl) (send_lacks_newline token method target size request is))
 
--- what two routes with a number have in common whose texts are the same
-pub record SameRoute (a b : Route) (s t : ℕ) : Type 0 where
-  pub route : a ≡ b
-  pub size : s ≡ t
+-- a command line is UTF-8
+command_ascii : (setup : Setup) (line : CommandLine) (text : List ℕ) → IsCommandText setup line text → IsAscii text
+command_ascii setup End text is = subst (λ (s : List ℕ). IsAscii s) (sym is) (literal_ascii (codes "end") refl)
+command_ascii setup (Now moment) text is =
+    subst (λ (s : List ℕ). IsAscii s) (sym is.1) (IsAscii-append (codes "now ") (decimal moment) (literal_ascii (codes "now ") refl) (IsAscii-decimal moment (moment_fits moment is.0)))
+command_ascii setup Restart text is = subst (λ (s : List ℕ). IsAscii s) (sym is) (literal_ascii (codes "restart") refl)
+command_ascii setup (Send token method target size) text (request, is, whole) =
+    subst (λ (s : List ℕ). IsAscii s) (sym whole) (IsAscii-append (codes "send ") request (literal_ascii (codes "send ") refl) (send_ascii token method target size request is))
 
-pub one_route : (a b : Route) (s t : ℕ) → s < 2 ^ 64 → t < 2 ^ 64 → route_text a ++ 32 ∷ decimal s ≡ route_text b ++ 32 ∷ decimal t → SameRoute a b s t
-one_route SubmissionId SubmissionId s t f g e =
-    let digits : decimal s ≡ decimal t = append_cancel (codes "GET /v0.10/submission_id ") (decimal s) (decimal t) e in
-    record { route = refl; size = decimal_injective s t f g digits }
-one_route Transfer Transfer s t f g e =
-    let digits : decimal s ≡ decimal t = append_cancel (codes "POST /v0.10/transfer ") (decimal s) (decimal t) e in
-    record { route = refl; size = decimal_injective s t f g digits }
-one_route SubmissionId Transfer s t f g e = let first : 71 ≡ 80 = ap (λ (x : List ℕ). get_or x 0 0) e in absurd (omega (arith, first))
-one_route Transfer SubmissionId s t f g e = let first : 80 ≡ 71 = ap (λ (x : List ℕ). get_or x 0 0) e in absurd (omega (arith, first))
+pub command_utf8 : (setup : Setup) (line : CommandLine) (text : List ℕ) → IsCommandText setup line text → IsUtf8 text
+command_utf8 setup line text is = IsUtf8-from_ascii text (command_ascii setup line text is)
 
-one_send : (setup : Setup) (i j : List ℕ) (a b : Route) (s t : ℕ) (text : List ℕ) → IsSendText setup i a s text → IsSendText setup j b t text → Send i a s ≡ Send j b t
-one_send setup i j a b s t text p q =
-    let front = same_front 32 p.token q.token (route_text a ++ 32 ∷ decimal s) (route_text b ++ 32 ∷ decimal t) (token_lacks_space setup p.token i p.known) (token_lacks_space setup q.token j q.known) (sym p.whole ∙ q.whole) in
-    let route = one_route a b s t (size_fits s p.fits) (size_fits t q.fits) front.rest in
-    let same : Some i ≡ Some j = sym p.known ∙ ap (caller_of setup) front.word ∙ q.known in
-    let caller : i ≡ j = cc in
-    ap (λ z. Send z a s) caller ∙ ap (λ z. Send j z s) route.route ∙ ap (λ (z : ℕ). Send j b z) route.size
+-- two words at the front of the same bytes, each before a space
+word_lacks_space : (word : List ℕ) → IsTrue (is_word word) → Lacks 32 word
+word_lacks_space word is = graphic_lacks 32 word (omega arith) (word_graphic word is)
+
+same_word : (a b x y : List ℕ) → IsTrue (is_word a) → IsTrue (is_word b) → a ++ 32 ∷ x ≡ b ++ 32 ∷ y → SameFront a b x y
+same_word a b x y p q e = same_front 32 a b x y (word_lacks_space a p) (word_lacks_space b q) e
+
+-- what stands behind them
+pub same_rest : (text a b x y : List ℕ) → IsTrue (is_word a) → IsTrue (is_word b) → text ≡ a ++ 32 ∷ x → text ≡ b ++ 32 ∷ y → x ≡ y
+same_rest text a b x y p q one two = (same_word a b x y p q (sym one ∙ two)).rest
+
+one_send : (a b : Option (List ℕ)) (m n u v : List ℕ) (s t : ℕ) (text : List ℕ) → IsSendText a m u s text → IsSendText b n v t text → Send a m u s ≡ Send b n v t
+one_send a b m n u v s t text p q =
+    let token = same_word (token_word a) (token_word b) (m ++ 32 ∷ (u ++ 32 ∷ decimal s)) (n ++ 32 ∷ (v ++ 32 ∷ decimal t)) (token_is_word a p.has_token) (token_is_word b q.has_token) (sym p.whole ∙ q.whole) in
+    let method = same_word m n (u ++ 32 ∷ decimal s) (v ++ 32 ∷ decimal t) p.has_method q.has_method token.rest in
+    let target = same_word u v (decimal s) (decimal t) p.has_target q.has_target method.rest in
+    let size = decimal_injective s t (size_fits s p.fits) (size_fits t q.fits) target.rest in
+    ap (λ z. Send z m u s) (one_token a b p.has_token q.has_token token.word) ∙ ap (λ z. Send b z u s) method.word ∙ ap (λ z. Send b n z s) target.word ∙ ap (λ (z : ℕ). Send b n v z) size
+
+-- the first byte of a command line's texts
+abbrev first_byte : CommandLine → ℕ
+first_byte End = 101
+first_byte (Now moment) = 110
+first_byte Restart = 114
+first_byte (Send token method target size) = 115
+
+begins : (setup : Setup) (line : CommandLine) (text : List ℕ) → IsCommandText setup line text → get_or text 0 0 ≡ first_byte line
+begins setup End text is = ap (λ (x : List ℕ). get_or x 0 0) is
+begins setup (Now moment) text is = ap (λ (x : List ℕ). get_or x 0 0) is.1
+begins setup Restart text is = ap (λ (x : List ℕ). get_or x 0 0) is
+begins setup (Send token method target size) text (request, is, whole) = ap (λ (x : List ℕ). get_or x 0 0) whole
 
 -- a text is that of one command line
 pub one_command : (setup : Setup) (a b : CommandLine) (text : List ℕ) → IsCommandText setup a text → IsCommandText setup b text → a ≡ b
@@ -150,39 +171,10 @@ one_command setup (Now m) (Now n) text p q =
     let digits : decimal m ≡ decimal n = append_cancel (codes "now ") (decimal m) (decimal n) (sym p.1 ∙ q.1) in
     ap (λ (z : ℕ). Now z) (decimal_injective m n (moment_fits m p.0) (moment_fits n q.0) digits)
 one_command setup Restart Restart text p q = refl
-one_command setup (Send i a s) (Send j b t) text (request, p, whole) (other, q, all) =
+one_command setup (Send a m u s) (Send b n v t) text (request, p, whole) (other, q, all) =
     let same : request ≡ other = append_cancel (codes "send ") request other (sym whole ∙ all) in
-    one_send setup i j a b s t request p (subst (IsSendText setup j b t) (sym same) q)
-one_command setup End (Now n) text p q = let first : 101 ≡ 110 = ap (λ (x : List ℕ). get_or x 0 0) (sym p ∙ q.1) in absurd (omega (arith, first))
-one_command setup End Restart text p q = let first : 101 ≡ 114 = ap (λ (x : List ℕ). get_or x 0 0) (sym p ∙ q) in absurd (omega (arith, first))
-one_command setup End (Send j b t) text p (other, q, all) = let first : 101 ≡ 115 = ap (λ (x : List ℕ). get_or x 0 0) (sym p ∙ all) in absurd (omega (arith, first))
-one_command setup (Now m) End text p q = let first : 110 ≡ 101 = ap (λ (x : List ℕ). get_or x 0 0) (sym p.1 ∙ q) in absurd (omega (arith, first))
-one_command setup (Now m) Restart text p q = let first : 110 ≡ 114 = ap (λ (x : List ℕ). get_or x 0 0) (sym p.1 ∙ q) in absurd (omega (arith, first))
-one_command setup (Now m) (Send j b t) text p (other, q, all) = let first : 110 ≡ 115 = ap (λ (x : List ℕ). get_or x 0 0) (sym p.1 ∙ all) in absurd (omega (arith, first))
-one_command setup Restart End text p q = let first : 114 ≡ 101 = ap (λ (x : List ℕ). get_or x 0 0) (sym p ∙ q) in absurd (omega (arith, first))
-one_command setup Restart (Now n) text p q = let first : 114 ≡ 110 = ap (λ (x : List ℕ). get_or x 0 0) (sym p ∙ q.1) in absurd (omega (arith, first))
-one_command setup Restart (Send j b t) text p (other, q, all) = let first : 114 ≡ 115 = ap (λ (x : List ℕ). get_or x 0 0) (sym p ∙ all) in absurd (omega (arith, first))
-one_command setup (Send i a s) End text (request, p, whole) q = let first : 115 ≡ 101 = ap (λ (x : List ℕ). get_or x 0 0) (sym whole ∙ q) in absurd (omega (arith, first))
-one_command setup (Send i a s) (Now n) text (request, p, whole) q = let first : 115 ≡ 110 = ap (λ (x : List ℕ). get_or x 0 0) (sym whole ∙ q.1) in absurd (omega (arith, first))
-one_command setup (Send i a s) Restart text (request, p, whole) q = let first : 115 ≡ 114 = ap (λ (x : List ℕ). get_or x 0 0) (sym whole ∙ q) in absurd (omega (arith, first))
-
--- a request's command line
-pub sent : (setup : Setup) (command request : List ℕ) (o : Option CommandLine) → command ≡ codes "send " ++ request → IfSome o (λ line. IsSendOf setup line request) → IfSome o (λ line. IsCommandText setup line command)
-sent setup command request None whole is = tt
-sent setup command request (Some End) whole is = absurd is
-sent setup command request (Some (Now moment)) whole is = absurd is
-sent setup command request (Some Restart) whole is = absurd is
-sent setup command request (Some (Send identity route size)) whole is = (request, is, whole)
-
--- behind `send ` no other command line stands
-pub send_only : (setup : Setup) (command request : List ℕ) → command ≡ codes "send " ++ request → ((identity : List ℕ) (route : Route) (size : ℕ) → IsSendText setup identity route size request → ⊥)
-    → (line : CommandLine) → IsCommandText setup line command → ⊥
-send_only setup command request whole none End is = let first : 115 ≡ 101 = ap (λ (x : List ℕ). get_or x 0 0) (sym whole ∙ is) in absurd (omega (arith, first))
-send_only setup command request whole none (Now moment) is = let first : 115 ≡ 110 = ap (λ (x : List ℕ). get_or x 0 0) (sym whole ∙ is.1) in absurd (omega (arith, first))
-send_only setup command request whole none Restart is = let first : 115 ≡ 114 = ap (λ (x : List ℕ). get_or x 0 0) (sym whole ∙ is) in absurd (omega (arith, first))
-send_only setup command request whole none (Send identity route size) (other, is, all) =
-    let same : other ≡ request = append_cancel (codes "send ") other request (sym all ∙ whole) in
-    none identity route size (subst (IsSendText setup identity route size) same is)
+    one_send a b m n u v s t request p (subst (IsSendText b n v t) (sym same) q)
+one_command setup a b text p q = absurd (omega (arith, sym (begins setup a text p) ∙ begins setup b text q))
 
 -- no byte of it is that one
 pub lacks_at : (byte : ℕ) (bytes : List ℕ) → Lacks byte bytes → (i : ℕ) → i < length bytes → get_or bytes i 0 ≢ byte
@@ -190,17 +182,9 @@ lacks_at byte [] p i below = absurd (omega (arith, below))
 lacks_at byte (x ∷ bytes) p zero below = p.0
 lacks_at byte (x ∷ bytes) p (suc i) below = lacks_at byte bytes p.1 i (omega (arith, below))
 
--- where a request is cut at its first space
-pub send_cut : (setup : Setup) (identity : List ℕ) (route : Route) (size : ℕ) (text : List ℕ) (is : IsSendText setup identity route size text) (r : Option (Bor (List ℕ) × Bor (List ℕ))) → IsSplitOnceResult 32 text r
-    → MatchOption r ⊥ (λ x. (x.0.now ≡ is.token) × (x.1.now ≡ route_text route ++ 32 ∷ decimal size))
-send_cut setup identity route size text is r cut =
-    split_after 32 text is.token (route_text route ++ 32 ∷ decimal size) r cut (omega arith) is.whole (lacks_at 32 is.token (token_lacks_space setup is.token identity is.known))
-
--- a text that is neither route with a number
-pub no_route : (text : List ℕ) → ((size : ℕ) → size ≤ most_body_bytes → text ≡ codes "GET /v0.10/submission_id " ++ decimal size → ⊥) → ((size : ℕ) → size ≤ most_body_bytes → text ≡ codes "POST /v0.10/transfer " ++ decimal size → ⊥)
-    → (route : Route) (size : ℕ) → size ≤ most_body_bytes → text ≡ route_text route ++ 32 ∷ decimal size → ⊥
-no_route text first second SubmissionId size fits e = first size fits e
-no_route text first second Transfer size fits e = second size fits e
+-- where a text is cut at its first space
+pub word_cut : (text word rest : List ℕ) (r : Option (Bor (List ℕ) × Bor (List ℕ))) → IsSplitOnceResult 32 text r → IsTrue (is_word word) → text ≡ word ++ 32 ∷ rest → MatchOption r ⊥ (λ x. (x.0.now ≡ word) × (x.1.now ≡ rest))
+word_cut text word rest r cut is whole = split_after 32 text word rest r cut (omega arith) whole (lacks_at 32 word (word_lacks_space word is))
 
 no_some : (b : Bool) (n : ℕ) (o : Option ℕ) → b ≡ true → o ≡ (if b then Some n else None) → o ≡ None → ⊥
 no_some true n o there is none = let no : ⊥ = cc in no

@@ -5,7 +5,7 @@ use Rattle.std.proofs.Common.{Bool, Err, IfErr, IfOk, IsTrue, List, Ok, Result, 
 use Rattle.gt_script.proofs.CommandLemmas.{command_plain, one_command}
 use Rattle.gt_script.proofs.ListLemmas.{no_longer, same_front}
 use Rattle.gt_script.specs.CommandLine.{IsCommandText}
-use Rattle.gt_script.specs.Reading.{BeginsCommand, BeginsNoLine, BeginsWith, BreaksOff, BreaksOffBehind, Counts, GoesOn, GoesOnNowhere, Refuses, Stops, StopsBehind, TakesOneLine, TakesOneRest}
+use Rattle.gt_script.specs.Reading.{BeginsCommand, BeginsNoLine, BeginsWith, BreaksOff, BreaksOffBehind, Counts, GoesOn, GoesOnNowhere, Refuses, Stops, TakesOneLine}
 use Rattle.gt_script.specs.Script.{Follows, IsTextOf, most_script_bytes}
 use Rattle.gt_script.specs.declared.command_line.CommandLine.{CommandLine}
 use Rattle.gt_script.specs.declared.line.Line.{Line}
@@ -97,14 +97,35 @@ module _ (setup : Setup) where
       unfinished = λ line rest taken here. off.unfinished line rest taken (subst (λ n. GoesOn setup command_line line n off.gone rest taken) first.count (goes_on command_line before first.command off.gone first.is_command line rest taken here));
     }
 
-    pub takes_one : (after : List ℕ) → TakesOneRest setup command_line through behind after → TakesOneLine setup before bytes after
-    takes_one after off = record {
-      gone = first.command ++ 10 ∷ off.gone;
-      whole = first.whole ∙ ap (λ s. first.command ++ 10 ∷ s) off.whole ∙ sym (append_assoc first.command (10 ∷ off.gone) after);
-      at_most_one = λ line rest taken here. off.at_most_one line rest taken (subst (λ n. GoesOn setup command_line line n off.gone rest taken) first.count (goes_on command_line before first.command off.gone first.is_command line rest taken here));
-    }
+  -- where no whole line was taken, at most one was
+  pub at_most_one : (before : ℕ) (bytes after : List ℕ) → BreaksOff setup before bytes after → TakesOneLine setup before bytes after
+  at_most_one before bytes after off = record { gone = off.gone; whole = off.whole; at_most_one = λ line rest taken here. absurd (off.unfinished line rest taken here) }
 
-  -- the same, of what reading the rest answers
+  stops : (before : ℕ) (bytes after : List ℕ) (fault : ScriptFault) → BreaksOff setup before bytes after → Stops setup before bytes after fault
+  stops before bytes after (Refused line) off = off
+  stops before bytes after SourceFault off = off
+  stops before bytes after OutOfMemory off = at_most_one before bytes after off
+
+  -- bytes without a newline were taken
+  pub cut_off : (before : ℕ) (gone bytes after : List ℕ) → HasNoNewline gone → bytes ≡ gone ++ after → BreaksOff setup before bytes after
+  cut_off before gone bytes after plain whole = record { gone = gone; whole = whole; unfinished = no_newline before gone plain }
+
+  -- a command line and its newline hold at most one line
+  nothing_behind : (a b : List ℕ) → [] ≡ a ++ b → b ≡ []
+  nothing_behind [] b e = sym e
+  nothing_behind (x ∷ a) b e = absurd (omega (arith, ap length e))
+
+  pub command_taken : (before : ℕ) (command bytes after : List ℕ) → HasNoNewline command → bytes ≡ command ++ 10 ∷ after → TakesOneLine setup before bytes after
+  command_taken before command bytes after plain whole = record {
+    gone = command ++ 10 ∷ [];
+    whole = whole ∙ sym (append_assoc command (10 ∷ []) after);
+    at_most_one = λ line rest taken here.
+        let is = here.is_text in
+        let front = same_front 10 command is.command [] (is.rest ++ rest) plain (plain_of line here.text is) (split line before (command ++ 10 ∷ []) rest taken here) in
+        nothing_behind is.rest rest front.rest;
+  }
+
+  -- what reading the rest answers, of the whole line
   module _ (command_line : CommandLine) (before : ℕ) (bytes behind after : List ℕ) (through : ℕ) (told later : Bool) (same : later ≡ told) (first : IsTrue told → BeginsCommand setup command_line before bytes behind through) where
     pub line_read : (taken : ℕ) (r : Result Line ScriptFault) → IfOk r (λ line. IsTrue later → GoesOn setup command_line line through behind after taken) → IfOk r (λ line. IsTrue told → BeginsWith setup line before bytes after taken)
     line_read taken (Ok line) on = λ t. begins_with command_line before bytes behind through (first t) line after taken (on (same ∙ t))
@@ -122,17 +143,6 @@ module _ (setup : Setup) where
     line_refused number (Err SourceFault) none = tt
     line_refused number (Err OutOfMemory) none = tt
 
-    pub line_stopped : (taken : ℕ) (r : Result Line ScriptFault) → IfErr r (λ fault. IsTrue later → StopsBehind setup command_line through behind after fault × Counts through behind after taken) → IfErr r (λ fault. IsTrue told → Stops setup before bytes after fault × Counts before bytes after taken)
-    line_stopped taken (Ok line) stops = tt
-    line_stopped taken (Err (Refused line)) stops = λ t. let (off, on) = stops (same ∙ t) in (breaks_off command_line before bytes behind through (first t) after off, counts_on taken t on)
-    line_stopped taken (Err SourceFault) stops = λ t. let (off, on) = stops (same ∙ t) in (breaks_off command_line before bytes behind through (first t) after off, counts_on taken t on)
-    line_stopped taken (Err OutOfMemory) stops = λ t. let (one, on) = stops (same ∙ t) in (takes_one command_line before bytes behind through (first t) after one, counts_on taken t on)
-
-  -- where no whole line was taken, at most one was
-  pub at_most_one : (before : ℕ) (bytes after : List ℕ) → BreaksOff setup before bytes after → TakesOneLine setup before bytes after
-  at_most_one before bytes after off = record { gone = off.gone; whole = off.whole; at_most_one = λ line rest taken here. absurd (off.unfinished line rest taken here) }
-
-  pub stops : (before : ℕ) (bytes after : List ℕ) (fault : ScriptFault) → BreaksOff setup before bytes after → Stops setup before bytes after fault
-  stops before bytes after (Refused line) off = off
-  stops before bytes after SourceFault off = off
-  stops before bytes after OutOfMemory off = at_most_one before bytes after off
+    pub line_stopped : (taken : ℕ) (r : Result Line ScriptFault) → IfErr r (λ fault. IsTrue later → BreaksOffBehind setup command_line through behind after × Counts through behind after taken) → IfErr r (λ fault. IsTrue told → Stops setup before bytes after fault × Counts before bytes after taken)
+    line_stopped taken (Ok line) off = tt
+    line_stopped taken (Err fault) off = λ t. let (behind_it, on) = off (same ∙ t) in (stops before bytes after fault (breaks_off command_line before bytes behind through (first t) after behind_it), counts_on taken t on)

@@ -1,8 +1,5 @@
 mod CommandLemmas
-mod DocumentLemmas
 mod FrontLemmas
 mod LineTextLemmas
 mod ListLemmas
 mod ReadingLemmas
-mod RequestLemmas
-mod SetupLemmas

@@ -1,10 +1,10 @@
 -- What the text of a line tells: no two lines have texts at the front of the same bytes.
 use Rattle.gt_setup.specs.Setup.{Setup}
-use Rattle.std.proofs.Common.{List, Some, [], ap, append_assoc, refl, subst, sym, ◌++◌, ◌∙◌, ◌∷◌, ◌≡◌, ℕ}
+use Rattle.std.proofs.Common.{List, Option, [], ap, append_assoc, subst, sym, ◌++◌, ◌∙◌, ◌∷◌, ◌≡◌, ℕ}
 use Rattle.gt_script.proofs.CommandLemmas.{command_plain, one_command}
 use Rattle.gt_script.proofs.ListLemmas.{append_cancel, same_front, same_length_front}
 use Rattle.gt_script.specs.CommandLine.{IsCommandText}
-use Rattle.gt_script.specs.Script.{Follows, IsRequest, IsTextOf, command_of}
+use Rattle.gt_script.specs.Script.{Follows, IsRequest, IsTextOf}
 use Rattle.gt_script.specs.declared.command_line.CommandLine.{CommandLine}
 use Rattle.gt_script.specs.declared.command_line.CommandLine.TheVariants.{End as EndCommand, Now as NowCommand, Restart as RestartCommand, Send as SendCommand}
 use Rattle.gt_script.specs.declared.line.Line.{Line}
@@ -16,52 +16,31 @@ pub record SameRest (a b : Line) (s t x y : List ℕ) : Type 0 where
   pub rest : s ≡ t
   pub behind : x ≡ y
 
-one_request : (setup : Setup) (who identity other : List ℕ) (route : _) (size : ℕ) (c d : _) (s t x y : List ℕ) → who ≡ identity → who ≡ other → IsRequest setup route size c s → IsRequest setup route size d t → s ++ x ≡ t ++ y
-    → SameRest (Send identity c) (Send other d) s t x y
-one_request setup who identity other route size c d s t x y i j p q e =
+nothing_behind : (a b line : Line) (s t x y : List ℕ) → (a ≡ line) × (s ≡ []) → (b ≡ line) × (t ≡ []) → s ++ x ≡ t ++ y → SameRest a b s t x y
+nothing_behind a b line s t x y p q e = record {
+  line = p.0 ∙ sym q.0;
+  rest = p.1 ∙ sym q.1;
+  behind = ap (λ z. z ++ x) (sym p.1) ∙ e ∙ ap (λ z. z ++ y) q.1;
+}
+
+one_request : (token : Option (List ℕ)) (method target : List ℕ) (size : ℕ) (a b : Line) (s t x y : List ℕ) → IsRequest token method target size a s → IsRequest token method target size b t → s ++ x ≡ t ++ y → SameRest a b s t x y
+one_request token method target size a b s t x y p q e =
     let front : p.body ++ (10 ∷ x) ≡ q.body ++ (10 ∷ y) =
     sym (append_assoc p.body (10 ∷ []) x) ∙ ap (λ z. z ++ x) (sym p.whole) ∙ e ∙ ap (λ z. z ++ y) q.whole ∙ append_assoc q.body (10 ∷ []) y in
     let body : p.body ≡ q.body = same_length_front p.body q.body (10 ∷ x) (10 ∷ y) (p.sized ∙ sym q.sized) front in
     let same : s ≡ t = p.whole ∙ ap (λ z. z ++ 10 ∷ []) body ∙ sym q.whole in
-    let asked : Some c ≡ Some d = sym p.asks ∙ ap (λ z. command_of setup route z) body ∙ q.asks in
-    let command : c ≡ d = cc in
-    let caller : identity ≡ other = sym i ∙ j in
     record {
-      line = ap (λ z. Send z c) caller ∙ ap (λ z. Send other z) command;
+      line = p.asks ∙ ap (λ z. Send token method target z) body ∙ sym q.asks;
       rest = same;
       behind = append_cancel s x y (e ∙ ap (λ z. z ++ y) (sym same));
     }
 
 -- behind one command line one line goes on
-pub one_rest : (setup : Setup) (command_line : CommandLine) (a b : Line) (s t x y : List ℕ) → Follows setup command_line a s → Follows setup command_line b t → s ++ x ≡ t ++ y → SameRest a b s t x y
-one_rest setup EndCommand End End s t x y p q e = record { line = refl; rest = p ∙ sym q; behind = ap (λ z. z ++ x) (sym p) ∙ e ∙ ap (λ z. z ++ y) q }
-one_rest setup (NowCommand m) (Now a) (Now b) s t x y p q e = record { line = ap (λ (z : ℕ). Now z) (sym p.0 ∙ q.0); rest = p.1 ∙ sym q.1; behind = ap (λ z. z ++ x) (sym p.1) ∙ e ∙ ap (λ z. z ++ y) q.1 }
-one_rest setup RestartCommand Restart Restart s t x y p q e = record { line = refl; rest = p ∙ sym q; behind = ap (λ z. z ++ x) (sym p) ∙ e ∙ ap (λ z. z ++ y) q }
-one_rest setup (SendCommand who route size) (Send i c) (Send j d) s t x y p q e = one_request setup who i j route size c d s t x y p.0 q.0 p.1 q.1 e
-one_rest setup EndCommand (Now m) b s t x y p q e = absurd p
-one_rest setup EndCommand Restart b s t x y p q e = absurd p
-one_rest setup EndCommand (Send i c) b s t x y p q e = absurd p
-one_rest setup EndCommand End (Now m) s t x y p q e = absurd q
-one_rest setup EndCommand End Restart s t x y p q e = absurd q
-one_rest setup EndCommand End (Send i c) s t x y p q e = absurd q
-one_rest setup (NowCommand m) End b s t x y p q e = absurd p
-one_rest setup (NowCommand m) Restart b s t x y p q e = absurd p
-one_rest setup (NowCommand m) (Send i c) b s t x y p q e = absurd p
-one_rest setup (NowCommand m) (Now a) End s t x y p q e = absurd q
-one_rest setup (NowCommand m) (Now a) Restart s t x y p q e = absurd q
-one_rest setup (NowCommand m) (Now a) (Send i c) s t x y p q e = absurd q
-one_rest setup RestartCommand End b s t x y p q e = absurd p
-one_rest setup RestartCommand (Now m) b s t x y p q e = absurd p
-one_rest setup RestartCommand (Send i c) b s t x y p q e = absurd p
-one_rest setup RestartCommand Restart End s t x y p q e = absurd q
-one_rest setup RestartCommand Restart (Now m) s t x y p q e = absurd q
-one_rest setup RestartCommand Restart (Send i c) s t x y p q e = absurd q
-one_rest setup (SendCommand who route size) End b s t x y p q e = absurd p
-one_rest setup (SendCommand who route size) (Now m) b s t x y p q e = absurd p
-one_rest setup (SendCommand who route size) Restart b s t x y p q e = absurd p
-one_rest setup (SendCommand who route size) (Send i c) End s t x y p q e = absurd q
-one_rest setup (SendCommand who route size) (Send i c) (Now m) s t x y p q e = absurd q
-one_rest setup (SendCommand who route size) (Send i c) Restart s t x y p q e = absurd q
+one_rest : (setup : Setup) (command_line : CommandLine) (a b : Line) (s t x y : List ℕ) → Follows setup command_line a s → Follows setup command_line b t → s ++ x ≡ t ++ y → SameRest a b s t x y
+one_rest setup EndCommand a b s t x y p q e = nothing_behind a b End s t x y p q e
+one_rest setup (NowCommand moment) a b s t x y p q e = nothing_behind a b (Now moment) s t x y p q e
+one_rest setup RestartCommand a b s t x y p q e = nothing_behind a b Restart s t x y p q e
+one_rest setup (SendCommand token method target size) a b s t x y p q e = one_request token method target size a b s t x y p q e
 
 -- what two lines have in common whose texts stand at the front of the same bytes
 pub record SameLine (a b : Line) (s t x y : List ℕ) : Type 0 where

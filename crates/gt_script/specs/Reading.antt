@@ -1,14 +1,10 @@
 -- What reading one line of a script took, where so many bytes of the script were taken before.
-use Rattle.gt_setup.specs.Setup.{Setup, has_identity}
-use Rattle.gt_types.specs.Command.{is_command}
-use Rattle.gt_types.specs.declared.command.Command.{Command}
-use Rattle.std.specs.Prelude.{IsTrue, List, [], length, ◌++◌, ◌+◌, ◌∷◌, ◌≡◌, ◌≤◌, ℕ}
+use Rattle.gt_setup.specs.Setup.{Setup}
+use Rattle.std.specs.Prelude.{List, [], length, ◌++◌, ◌+◌, ◌∷◌, ◌≡◌, ◌≤◌, ℕ}
 use Rattle.gt_script.specs.CommandLine.{IsCommandText, most_command_bytes}
-use Rattle.gt_script.specs.Script.{Follows, IsTextOf, is_asked, most_script_bytes}
+use Rattle.gt_script.specs.Script.{Follows, IsTextOf, most_script_bytes}
 use Rattle.gt_script.specs.declared.command_line.CommandLine.{CommandLine}
-use Rattle.gt_script.specs.declared.command_line.CommandLine.TheVariants.{End as EndCommand, Now as NowCommand, Restart as RestartCommand, Send as SendCommand}
 use Rattle.gt_script.specs.declared.line.Line.{Line}
-use Rattle.gt_script.specs.declared.line.Line.TheVariants.{End, Now, Restart, Send}
 use Rattle.gt_script.specs.declared.line.ScriptFault.{ScriptFault}
 use Rattle.gt_script.specs.declared.line.ScriptFault.TheVariants.{OutOfMemory, Refused, SourceFault}
 
@@ -82,18 +78,6 @@ pub record BreaksOffBehind (setup : Setup) (command_line : CommandLine) (before 
   pub whole : bytes ≡ gone ++ after
   pub unfinished : GoesOnNowhere setup command_line before gone
 
--- behind the command line some bytes were taken, and nothing behind a whole line
-pub record TakesOneRest (setup : Setup) (command_line : CommandLine) (before : ℕ) (bytes after : List ℕ) : Type 0 where
-  pub gone : List ℕ
-  pub whole : bytes ≡ gone ++ after
-  pub at_most_one : (line : Line) (behind : List ℕ) (taken : ℕ) → GoesOn setup command_line line before gone behind taken → behind ≡ []
-
--- what was taken behind a command line where no line was read
-abbrev pub StopsBehind : Setup → CommandLine → ℕ → List ℕ → List ℕ → ScriptFault → Type 0
-StopsBehind setup command_line before bytes after (Refused line) = BreaksOffBehind setup command_line before bytes after
-StopsBehind setup command_line before bytes after SourceFault = BreaksOffBehind setup command_line before bytes after
-StopsBehind setup command_line before bytes after OutOfMemory = TakesOneRest setup command_line before bytes after
-
 -- no body of this size with a newline stands there within the limit
 abbrev pub HasNoBody : ℕ → ℕ → List ℕ → Type 0
 HasNoBody size before bytes = (body behind : List ℕ) → length body ≡ size → bytes ≡ body ++ 10 ∷ behind → before + size + 1 ≤ most_script_bytes → ⊥
@@ -103,21 +87,3 @@ pub record BreaksOffBody (size before : ℕ) (bytes after : List ℕ) : Type 0 w
   pub gone : List ℕ
   pub whole : bytes ≡ gone ++ after
   pub unfinished : HasNoBody size before gone
-
--- the command is within its limits, and a line can ask it
-abbrev pub IsGoodRequest : Setup → Command → Type 0
-IsGoodRequest setup command = IsTrue (is_command (length setup.collections) command) × IsTrue (is_asked command)
-
--- the caller is an identity of the setup, and its request is good
-abbrev pub IsGoodLine : Setup → Line → Type 0
-IsGoodLine setup End = Unit {0}
-IsGoodLine setup (Now moment) = Unit {0}
-IsGoodLine setup Restart = Unit {0}
-IsGoodLine setup (Send identity command) = IsTrue (has_identity setup identity) × IsGoodRequest setup command
-
--- the caller is an identity of the setup
-abbrev pub IsGoodCommand : Setup → CommandLine → Type 0
-IsGoodCommand setup EndCommand = Unit {0}
-IsGoodCommand setup (NowCommand moment) = Unit {0}
-IsGoodCommand setup RestartCommand = Unit {0}
-IsGoodCommand setup (SendCommand identity route size) = IsTrue (has_identity setup identity)

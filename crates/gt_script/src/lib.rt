@@ -1,4 +1,4 @@
-//! The lines of a script, read one by one from a source: what each asks of the desk, or that no line stands there.
+//! The lines of a script, read one by one from a source: what each asks for, or that no line stands there.
 //!
 //! A line is its command line and, for a request, the body behind it (`specs/Script.antt`). `read_script_line` takes the
 //! bytes of one line and nothing behind them, within the limit of a script, and says of each answer which bytes were taken
@@ -7,15 +7,9 @@
 #![tactic(auto)]
 
 mod command_line;
-mod document;
 mod laws;
 mod line;
 mod reader;
-mod submission;
-#[cfg(test)]
-mod submission_tests;
-#[cfg(test)]
-mod tests;
 
 pub use laws::{a_script_has_one_reading, lines_end_with_their_text};
 pub use line::{Line, ScriptFault};

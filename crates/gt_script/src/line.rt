@@ -1,8 +1,7 @@
 ghost use Rattle.gt_script.specs.declared.line.Line.TheVariants.{End};
 ghost use Rattle.std.specs.Prelude.{IsTrue, ◌↔◌, ◌≡◌};
 
-use gt_types::Command;
-use gt_values::{Id, Moment};
+use gt_values::{Bytes, Moment, Text};
 use thiserror::Error;
 
 /// A line of a script, with all that belongs to it.
@@ -14,8 +13,13 @@ pub enum Line {
     Now(Moment),
     /// `restart`: closes the desk and opens it again, and prints the number of events.
     Restart,
-    /// `send TOKEN METHOD TARGET N`, with a body of N bytes and a newline: a request of this identity.
-    Send { identity: Id, command: Command },
+    /// `send TOKEN METHOD TARGET N`, with a body of N bytes and a newline: this request, with no token where TOKEN is `-`.
+    Send {
+        token: Option<Text>,
+        method: Text,
+        target: Text,
+        body: Bytes,
+    },
 }
 
 impl Line {

@@ -1,19 +1,18 @@
 ghost use Rattle.gt_causes.specs.Causes.{HasFailed};
-ghost use Rattle.gt_script.specs.Reading.{BeginsCommand, BeginsNoLine, BeginsWith, BreaksOff, BreaksOffBody, Counts, GoesOn, GoesOnNowhere, HasNoBody, IsGoodCommand, IsGoodLine, IsGoodRequest, Refuses, Stops, StopsBehind};
-ghost use Rattle.gt_script.specs.Script.{command_of, most_script_bytes};
+ghost use Rattle.gt_script.specs.Reading.{BeginsCommand, BeginsNoLine, BeginsWith, BreaksOff, BreaksOffBehind, BreaksOffBody, Counts, GoesOn, GoesOnNowhere, HasNoBody, Refuses, Stops};
+ghost use Rattle.gt_script.specs.Script.{most_script_bytes};
 ghost use Rattle.gt_streams.specs.Streams.{IsSameSource};
-ghost use Rattle.std.specs.Prelude.{IfErr, IfOk, IfSome, IsErrOf, IsTrue, length, ◌++◌, ◌+◌, ◌<◌, ◌≡◌, ◌≤◌, ◌∷◌};
+ghost use Rattle.std.specs.Prelude.{IfErr, IfOk, IsErrOf, IsTrue, length, ◌++◌, ◌+◌, ◌<◌, ◌≡◌, ◌≤◌, ◌∷◌};
 
-use crate::command_line::{CommandLine, Route, read_command};
+use crate::command_line::{CommandLine, read_command};
 use crate::line::{Line, ScriptFault};
-use crate::submission::read_submission;
 use gt_setup::Setup;
 use gt_streams::{LineEnd, Source, StreamFault, read_exactly, read_line};
-use gt_types::Command;
+use gt_values::Bytes;
 use std::alloc::{AllocError, Global};
 
 /// The most bytes of a script, through the newline of its `end` line.
-pub const SCRIPT_LIMIT: u64 = 1_048_576;
+pub const SCRIPT_LIMIT: u64 = 67_108_864;
 
 // A command line has at most 8,192 bytes: one more, with no newline among them, is too long.
 const COMMAND_LIMIT: u32 = 8_193;
@@ -22,8 +21,11 @@ const COMMAND_LIMIT: u32 = 8_193;
 /// the call adds those that it takes, whatever it answers.
 ///
 /// `Refused` names the line. It comes exactly where no line stands there that ends within the limit, or where the input ends
-/// before it. Nothing behind the line is taken. `body_started` says that a line other than one of trees was read before; no
-/// line is one of trees, so nothing depends on it.
+/// before it. Nothing behind the line is taken. A request is not judged: its token may be unknown, its method and its target
+/// may be any word, and its body any bytes.
+///
+/// `body_started` says that a line other than one on trees was read before. No line is one on trees, and none depends on the
+/// setup, so the answer depends on neither.
 pub fn read_script_line<S: Source>(
     alloc: Global,
     script: &mut S,
@@ -33,8 +35,7 @@ pub fn read_script_line<S: Source>(
     body_started: bool,
 ) -> Result<Line, ScriptFault>
     requires { taken.old < most_script_bytes }
-    ensures ok { IfOk result (λ line. IsGoodLine setup.now line
-        × (taken.old < taken.new) × (taken.new ≤ most_script_bytes)) }
+    ensures ok { IfOk result (λ _. (taken.old < taken.new) × (taken.new ≤ most_script_bytes)) }
     ensures line { IfOk result (λ line. IsTrue (S.words.told script.old)
         → BeginsWith setup.now line taken.old (S.words.left script.old)
         (S.words.left script.new) taken.new) }
@@ -62,15 +63,14 @@ fn read_command_line<S: Source>(
     taken: &mut u64,
 ) -> Result<CommandLine, ScriptFault>
     requires { taken.old < most_script_bytes }
-    ensures ok { IfOk result (λ line. IsGoodCommand setup.now line
-        × (taken.old < taken.new) × (taken.new ≤ most_script_bytes)) }
+    ensures ok { IfOk result (λ _. (taken.old < taken.new) × (taken.new ≤ most_script_bytes)) }
     ensures command { IfOk result (λ line. IsTrue (S.words.told script.old)
         → BeginsCommand setup.now line taken.old (S.words.left script.old)
         (S.words.left script.new) taken.new) }
     ensures refused { IfErr result (Refuses number (IsTrue (S.words.told script.old)
         → BeginsNoLine setup.now taken.old (S.words.left script.old))) }
-    ensures stopped { IfErr result (λ _. IsTrue (S.words.told script.old)
-        → BreaksOff setup.now taken.old (S.words.left script.old) (S.words.left script.new)
+    ensures stopped { IfErr result (λ fault. IsTrue (S.words.told script.old)
+        → Stops setup.now taken.old (S.words.left script.old) (S.words.left script.new) fault
         × Counts taken.old (S.words.left script.old) (S.words.left script.new) taken.new) }
     ensures cause { IsErrOf result ScriptFault.SourceFault
         → HasFailed S.words.faults script.old script.new }
@@ -90,9 +90,10 @@ fn read_command_line<S: Source>(
     if *taken > SCRIPT_LIMIT {
         return Err(ScriptFault::Refused { line: number });
     }
-    match read_command(setup, &command) {
-        Some(command_line) => Ok(command_line),
-        None => Err(ScriptFault::Refused { line: number }),
+    match read_command(alloc, setup, &command) {
+        Ok(Some(command_line)) => Ok(command_line),
+        Ok(None) => Err(ScriptFault::Refused { line: number }),
+        Err(AllocError) => Err(ScriptFault::OutOfMemory),
     }
 }
 
@@ -105,18 +106,16 @@ fn read_rest<S: Source>(
     number: u64,
     taken: &mut u64,
 ) -> Result<Line, ScriptFault>
-    requires fits { taken.old ≤ most_script_bytes }
-    requires good_command { IsGoodCommand setup.now command_line }
-    ensures ok { IfOk result (λ line. IsGoodLine setup.now line
-        × (taken.old ≤ taken.new) × (taken.new ≤ most_script_bytes)) }
+    requires { taken.old ≤ most_script_bytes }
+    ensures ok { IfOk result (λ _. (taken.old ≤ taken.new) × (taken.new ≤ most_script_bytes)) }
     ensures line { IfOk result (λ line. IsTrue (S.words.told script.old)
         → GoesOn setup.now command_line line taken.old (S.words.left script.old)
         (S.words.left script.new) taken.new) }
     ensures refused { IfErr result (Refuses number (IsTrue (S.words.told script.old)
         → GoesOnNowhere setup.now command_line taken.old (S.words.left script.old))) }
-    ensures stopped { IfErr result (λ fault. IsTrue (S.words.told script.old)
-        → StopsBehind setup.now command_line taken.old (S.words.left script.old)
-        (S.words.left script.new) fault
+    ensures stopped { IfErr result (λ _. IsTrue (S.words.told script.old)
+        → BreaksOffBehind setup.now command_line taken.old (S.words.left script.old)
+        (S.words.left script.new)
         × Counts taken.old (S.words.left script.old) (S.words.left script.new) taken.new) }
     ensures cause { IsErrOf result ScriptFault.SourceFault
         → HasFailed S.words.faults script.old script.new }
@@ -127,16 +126,18 @@ fn read_rest<S: Source>(
         CommandLine::Now(moment) => Ok(Line::Now(moment)),
         CommandLine::Restart => Ok(Line::Restart),
         CommandLine::Send {
-            identity,
-            route,
+            token,
+            method,
+            target,
             size,
         } => {
             let body = read_body(alloc, script, size, number, taken)?;
-            match asked_command(alloc, setup, route, &body) {
-                Ok(Some(command)) => Ok(Line::Send { identity, command }),
-                Ok(None) => Err(ScriptFault::Refused { line: number }),
-                Err(AllocError) => Err(ScriptFault::OutOfMemory),
-            }
+            Ok(Line::Send {
+                token,
+                method,
+                target,
+                body: Bytes::from_vec(body),
+            })
         }
     }
 }
@@ -181,21 +182,5 @@ fn read_body<S: Source>(
     match body.pop() {
         Some(b'\n') => Ok(body),
         _ => Err(ScriptFault::Refused { line: number }),
-    }
-}
-
-// The command that a request of this route and body gives.
-fn asked_command(
-    alloc: Global,
-    setup: &Setup,
-    route: Route,
-    body: &[u8],
-) -> Result<Option<Command>, AllocError>
-    ensures value { IfOk result (λ command. command ≡ command_of setup.now route body.now) }
-    ensures good { IfOk result (λ o. IfSome o (IsGoodRequest setup.now)) }
-{
-    match route {
-        Route::SubmissionId => Ok(Some(Command::IssueId)),
-        Route::Transfer => read_submission(alloc, setup, body),
     }
 }

@@ -1,22 +1,25 @@
-use Rattle.std.proofs.Common.{ap, subst, sym, ◌∙◌}
-use Rattle.gt_script.proofs.CommandLemmas.{send_cut, send_utf8}
+-- The words of a request are those that were cut off at its spaces, one after another.
+use Rattle.std.proofs.Common.{refl, ◌++◌, ◌∷◌}
+use Rattle.gt_script.proofs.CommandLemmas.{same_rest, token_is_word}
 use Rattle.gt_script.proofs.command_line.read_send.Goals as goal
-use Rattle.gt_script.specs.CommandLine.{IsSendText, caller_of}
+use Rattle.gt_script.proofs.command_line.read_send.Goals.{In-Some}
+use Rattle.gt_script.specs.CommandLine.{token_word}
+use Rattle.std.specs.Fmt.{decimal}
 
-pub returns-in-Some-clause-none : goal.returns-in-Some-clause-none
-returns-in-Some-clause-none c none i r s is =
-    let setup = c.args.setup.now in
-    let text = subst (IsSendText setup i r s) (sym c.in-Ok.ensures.cases.0) is in
-    let found = send_cut setup i r s c.in-Ok.text.now text c.split_once.result c.split_once.ensures.cases in
-    let parts = rw c.in-Some.is at found in
-    c.send_of.ensures.none none i r s (ap (caller_of setup) parts.0 ∙ text.known) text.fits (c.as_bytes.ensures.value ∙ parts.1)
+pub returns-in_default-first_word-clause-none : goal.returns-in_default-first_word-clause-none
+returns-in_default-first_word-clause-none c none token method target size is =
+    let first = same_rest c.args.request.now c.in-Some.token.now (token_word token) c.in-Some.behind_token.now (method ++ 32 ∷ (target ++ 32 ∷ decimal size)) c.in-Some.ensures.some.0 (token_is_word token is.has_token) c.in-Some.ensures.some.1 is.whole in
+    c.in_default-first_word.ensures.none refl method (target ++ 32 ∷ decimal size) is.has_method first
 
-pub returns-in-None-clause-none : goal.returns-in-None-clause-none
-returns-in-None-clause-none c none i r s is =
-    let setup = c.args.setup.now in
-    let text = subst (IsSendText setup i r s) (sym c.in-Ok.ensures.cases.0) is in
-    let found = send_cut setup i r s c.in-Ok.text.now text c.split_once.result c.split_once.ensures.cases in
-    rw c.in-None.is at found
+pub returns-in_default-first_word-2-clause-none : goal.returns-in_default-first_word-2-clause-none
+returns-in_default-first_word-2-clause-none c none token method target size is =
+    let first = same_rest c.args.request.now c.in-Some.token.now (token_word token) c.in-Some.behind_token.now (method ++ 32 ∷ (target ++ 32 ∷ decimal size)) c.in-Some.ensures.some.0 (token_is_word token is.has_token) c.in-Some.ensures.some.1 is.whole in
+    let second = same_rest c.in-Some.behind_token.now c.in-Some-first_word.method.now method c.in-Some-first_word.behind_method.now (target ++ 32 ∷ decimal size) c.in-Some-first_word.ensures.some.0 is.has_method c.in-Some-first_word.ensures.some.1 first in
+    c.in_default-first_word-2.ensures.none refl target (decimal size) is.has_target second
 
-pub returns-in-Err-clause-none : goal.returns-in-Err-clause-none
-returns-in-Err-clause-none c none i r s is = c.in-Err.ensures.cases.0 (send_utf8 c.args.setup.now i r s c.args.request.now is)
+pub returns-in_default-read_decimal-clause-none : goal.returns-in_default-read_decimal-clause-none
+returns-in_default-read_decimal-clause-none c none token method target size is =
+    let first = same_rest c.args.request.now c.in-Some.token.now (token_word token) c.in-Some.behind_token.now (method ++ 32 ∷ (target ++ 32 ∷ decimal size)) c.in-Some.ensures.some.0 (token_is_word token is.has_token) c.in-Some.ensures.some.1 is.whole in
+    let second = same_rest c.in-Some.behind_token.now c.in-Some-first_word.method.now method c.in-Some-first_word.behind_method.now (target ++ 32 ∷ decimal size) c.in-Some-first_word.ensures.some.0 is.has_method c.in-Some-first_word.ensures.some.1 first in
+    let third = same_rest c.in-Some-first_word.behind_method.now c.in-Some-first_word-2.target.now target c.in-Some-first_word-2.digits.now (decimal size) c.in-Some-first_word-2.ensures.some.0 is.has_target c.in-Some-first_word-2.ensures.some.1 second in
+    c.in_default-read_decimal.ensures.none refl size is.fits third

@@ -1,6 +1,6 @@
 -- Which bytes a command line that is none has at its front, at each way in which reading it ends.
 use Rattle.std.proofs.Common.{[], ap, append_assoc, arith, length, length-append, refl, rules, subst, sym, ◌++◌, ◌+◌, ◌<◌, ◌∙◌, ◌∷◌, ◌≡◌}
-use Rattle.gt_script.proofs.FrontLemmas.{late_command, long_command, no_newline, other_command}
+use Rattle.gt_script.proofs.FrontLemmas.{at_most_one, command_taken, cut_off, late_command, long_command, no_newline, other_command}
 use Rattle.gt_script.proofs.reader.read_command_line.Goals as goal
 use Rattle.gt_script.specs.CommandLine.{IsCommandText}
 use Rattle.gt_script.specs.Reading.{BeginsNoLine}
@@ -34,8 +34,8 @@ returns-then-taken-gt-SCRIPT_LIMIT-clause-stopped g c told =
       omega (arith, ap length whole, length-append command (10 ∷ after)),
     )
 
-pub returns-clause-refused : goal.returns-clause-refused
-returns-clause-refused g c = (
+pub returns-in-Ok-None-clause-refused : goal.returns-in-Ok-None-clause-refused
+returns-in-Ok-None-clause-refused g c = (
   refl,
   λ told.
       let command = c.read_line-end.new.into.items in
@@ -46,8 +46,8 @@ returns-clause-refused g c = (
       subst (BeginsNoLine c.args.setup.now before) (sym whole) (other_command c.args.setup.now before command after c.read_line-end.ensures.value.plain none),
 )
 
-pub returns-clause-stopped : goal.returns-clause-stopped
-returns-clause-stopped g c told =
+pub returns-in-Ok-None-clause-stopped : goal.returns-in-Ok-None-clause-stopped
+returns-in-Ok-None-clause-stopped g c told =
     let command = c.read_line-end.new.into.items in
     let after = g.S.Source.words.left c.read_line-end.new.source in
     let before = c.args.taken.now in
@@ -88,25 +88,32 @@ returns-in-Ok-EndOfInput-clause-stopped g c told =
     let bytes = c.read_line-end.new.into.items in
     let after = g.S.Source.words.left c.read_line-end.new.source in
     let whole : g.S.Source.words.left c.args.script.now ≡ bytes ++ after = search rules in
-    (record { gone = bytes; whole = whole; unfinished = no_newline c.args.setup.now c.args.taken.now bytes c.read_line-end.ensures.value.plain }, omega (arith, ap length whole, length-append bytes after))
+    (cut_off c.args.setup.now c.args.taken.now bytes _ after c.read_line-end.ensures.value.plain whole, omega (arith, ap length whole, length-append bytes after))
 
 pub returns-in-Err-TooLong-clause-stopped : goal.returns-in-Err-TooLong-clause-stopped
 returns-in-Err-TooLong-clause-stopped g c told =
     let bytes = c.read_line-end.new.into.items in
     let after = g.S.Source.words.left c.read_line-end.new.source in
     let whole : g.S.Source.words.left c.args.script.now ≡ bytes ++ after = search rules in
-    (record { gone = bytes; whole = whole; unfinished = no_newline c.args.setup.now c.args.taken.now bytes c.read_line-end.ensures.value.plain }, omega (arith, ap length whole, length-append bytes after))
+    (cut_off c.args.setup.now c.args.taken.now bytes _ after c.read_line-end.ensures.value.plain whole, omega (arith, ap length whole, length-append bytes after))
 
 pub returns-in-Err-ReadFault-clause-stopped : goal.returns-in-Err-ReadFault-clause-stopped
 returns-in-Err-ReadFault-clause-stopped g c told =
     let bytes = c.read_line-end.new.into.items in
     let after = g.S.Source.words.left c.read_line-end.new.source in
     let whole : g.S.Source.words.left c.args.script.now ≡ bytes ++ after = search rules in
-    (record { gone = bytes; whole = whole; unfinished = no_newline c.args.setup.now c.args.taken.now bytes c.read_line-end.ensures.value.plain }, omega (arith, ap length whole, length-append bytes after))
+    (cut_off c.args.setup.now c.args.taken.now bytes _ after c.read_line-end.ensures.value.plain whole, omega (arith, ap length whole, length-append bytes after))
 
 pub returns-in-Err-OutOfMemory-clause-stopped : goal.returns-in-Err-OutOfMemory-clause-stopped
 returns-in-Err-OutOfMemory-clause-stopped g c told =
     let bytes = c.read_line-end.new.into.items in
     let after = g.S.Source.words.left c.read_line-end.new.source in
     let whole : g.S.Source.words.left c.args.script.now ≡ bytes ++ after = search rules in
-    (record { gone = bytes; whole = whole; unfinished = no_newline c.args.setup.now c.args.taken.now bytes c.read_line-end.ensures.value.plain }, omega (arith, ap length whole, length-append bytes after))
+    (at_most_one c.args.setup.now c.args.taken.now _ after (cut_off c.args.setup.now c.args.taken.now bytes _ after c.read_line-end.ensures.value.plain whole), omega (arith, ap length whole, length-append bytes after))
+
+pub returns-clause-stopped : goal.returns-clause-stopped
+returns-clause-stopped g c told =
+    let command = c.read_line-end.new.into.items in
+    let after = g.S.Source.words.left c.read_line-end.new.source in
+    let whole : g.S.Source.words.left c.args.script.now ≡ command ++ 10 ∷ after = search rules in
+    (command_taken c.args.setup.now c.args.taken.now command _ after c.read_line-end.ensures.value.plain whole, omega (arith, ap length whole, length-append command (10 ∷ after)))

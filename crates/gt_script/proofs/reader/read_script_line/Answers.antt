@@ -1,11 +1,6 @@
 -- The rest of a line goes on where its command line ended, so what is said of the rest is turned into what is said of the whole.
-use Rattle.gt_script.proofs.FrontLemmas.{line_read, line_refused, line_stopped, stops}
+use Rattle.gt_script.proofs.FrontLemmas.{line_read, line_refused, line_stopped}
 use Rattle.gt_script.proofs.reader.read_script_line.Goals as goal
-
-pub returns-in-Err-clause-stopped : goal.returns-in-Err-clause-stopped
-returns-in-Err-clause-stopped g c told =
-    let (off, counts) = c.in-Err.ensures.stopped told in
-    (stops c.args.setup.now c.args.taken.now (g.S.Source.words.left c.args.script.now) (g.S.Source.words.left c.read_command_line.new.script) c.in-Err.fault off, counts)
 
 pub returns-in-Ok-clause-line : goal.returns-in-Ok-clause-line
 returns-in-Ok-clause-line g c =
