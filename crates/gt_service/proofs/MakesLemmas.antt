@@ -14,7 +14,7 @@ use Rattle.gt_machine.specs.declared.decision.Decision.{Decision}
 use Rattle.gt_replies.specs.ReplyText.{reply_status}
 use Rattle.gt_requests.specs.declared.fault.RequestFault.{RequestFault}
 use Rattle.gt_service.specs.Laws.{Makes, MakesOne, ReadsMakeNone, RefusalsMakeNone}
-use Rattle.gt_service.specs.Service.{IsAsked, IsUntouched, Response, ServesAs, reading_of, response_of, response_to}
+use Rattle.gt_service.specs.Service.{AsksDesk, IsAsked, IsUntouched, Response, ServesAs, reading_of, response_of, response_to}
 use Rattle.gt_service.proofs.Shapes.{read_makes_none, shape}
 use Rattle.gt_types.specs.declared.command.Command.{Command}
 use Rattle.gt_types.specs.declared.event.Event.{Event}
@@ -70,7 +70,7 @@ makes_one words incoming now old new response serves = by_reading (reading_of ol
     Few : List Event → Type 0
     Few made = length made ≤ 1
 
-    by_reading : (reading : Result (List ℕ × Command) RequestFault) → ServesAs words reading now old response new → Makes words Few old new
+    by_reading : (reading : Result (List ℕ × Command) RequestFault) → ServesAs old.setup (AsksDesk words now old new) reading old response new → Makes words Few old new
     by_reading (Ok request) served =
         ⊎_elim (λ (u : IsUntouched old response new). makes_nothing words Few old new (omega arith) u.still)
         (λ (a : IsAsked words request.0 request.1 now old response new).
@@ -80,7 +80,8 @@ makes_one words incoming now old new response serves = by_reading (reading_of ol
 
 pub reads_make_none : {D : Type 0} (words : DiskWords D) → ReadsMakeNone words
 reads_make_none words incoming now old new response identity command reading is serves =
-    let served : ServesAs words (Ok (identity, command)) now old response new = subst (λ r. ServesAs words r now old response new) reading serves in
+    let served : ServesAs old.setup (AsksDesk words now old new) (Ok (identity, command)) old response new =
+    subst (λ r. ServesAs old.setup (AsksDesk words now old new) r old response new) reading serves in
     ⊎_elim (λ (u : IsUntouched old response new). makes_nothing words None_made old new refl u.still)
     (λ (a : IsAsked words identity command now old response new).
     makes_decided words None_made (λ m. answer_of old.setup m identity command now) old new a.answer refl
@@ -169,7 +170,7 @@ refusals_make_none words incoming now old new response serves refused = by_readi
         at_503 e = let low : nat_le response.0 413 ≡ true = (both (nat_le 400 response.0) (nat_le response.0 413) refused).1 in let no : nat_le 503 413 ≡ true = subst (λ n. nat_le n 413 ≡ true) e low in absurd (cc)
     by_answer request (Err NoMemory) call is = absurd (not_none (sym is))
 
-    by_reading : (reading : Result (List ℕ × Command) RequestFault) → ServesAs words reading now old (Some response) new → Goal
+    by_reading : (reading : Result (List ℕ × Command) RequestFault) → ServesAs old.setup (AsksDesk words now old new) reading old (Some response) new → Goal
     by_reading (Ok request) served =
         ⊎_elim (λ (u : IsUntouched old (Some response) new). absurd (not_none u.none))
         (λ (a : IsAsked words request.0 request.1 now old (Some response) new). by_answer request a.answer a.call a.told) served

@@ -42,31 +42,39 @@ abbrev pub RefusesAs : RequestFault → Option Response → Type 0
 RefusesAs (Refused code place) response = IfSome response (λ r. r ≡ refusal_of code place)
 RefusesAs OutOfMemory response = response ≡ None
 
--- Not read: desk and disk are as before, and the response, unless memory was wanted, is the refusal.
-pub record IsRefused {D : Type 0} (fault : RequestFault) (old : Desk D) (response : Option Response) (new : Desk D) : Type 0 where
+-- Not read: all is as before, and the response, unless memory was wanted, is the refusal.
+pub record IsRefused {S : Type 0} (fault : RequestFault) (old : S) (response : Option Response) (new : S) : Type 0 where
   pub still : new ≡ old
   pub told : RefusesAs fault response
 
 -- Memory was wanted before the desk was asked.
-pub record IsUntouched {D : Type 0} (old : Desk D) (response : Option Response) (new : Desk D) : Type 0 where
+pub record IsUntouched {S : Type 0} (old : S) (response : Option Response) (new : S) : Type 0 where
   pub still : new ≡ old
   pub none : response ≡ None
 
 -- The desk was asked once, and the response, unless memory was wanted, is that to its answer.
-pub record IsAsked {D : Type 0} (words : DiskWords D) (identity : List ℕ) (command : Command) (now : ℕ) (old : Desk D) (response : Option Response) (new : Desk D) : Type 0 where
+pub record IsAnswered (setup : Setup) (asks : Result Reply DeskFault → Type 0) (response : Option Response) : Type 0 where
   pub answer : Result Reply DeskFault
-  pub call : IsCall words (λ m. answer_of old.setup m identity command now) old answer new
-  pub told : IfSome response (λ r. response_to old.setup answer ≡ Some r)
+  pub call : asks answer
+  pub told : IfSome response (λ r. response_to setup answer ≡ Some r)
 
--- by what the request is read as
-abbrev pub ServesAs : {D : Type 0} → DiskWords D → Result (List ℕ × Command) RequestFault → ℕ → Desk D → Option Response → Desk D → Type 0
-ServesAs words (Ok request) now old response new =
-    IsUntouched old response new ⊎ IsAsked words request.0 request.1 now old response new
-ServesAs words (Err fault) now old response new = IsRefused fault old response new
+-- By what the request is read as, from one state of what is served to another: of a desk, or of the world that stands for it.
+-- `asks` says what asking the desk makes of it.
+abbrev pub ServesAs : {S : Type 0} → Setup → (asks : List ℕ → Command → Result Reply DeskFault → Type 0) → Result (List ℕ × Command) RequestFault → S → Option Response → S → Type 0
+ServesAs setup asks (Ok request) old response new = IsUntouched old response new ⊎ IsAnswered setup (asks request.0 request.1) response
+ServesAs setup asks (Err fault) old response new = IsRefused fault old response new
+
+-- the desk was asked for a caller's command at this moment, and answered so
+abbrev pub AsksDesk : {D : Type 0} → DiskWords D → ℕ → Desk D → Desk D → List ℕ → Command → Result Reply DeskFault → Type 0
+AsksDesk words now old new identity command answer = IsCall words (λ m. answer_of old.setup m identity command now) old answer new
+
+abbrev pub IsAsked : {D : Type 0} → DiskWords D → List ℕ → Command → ℕ → Desk D → Option Response → Desk D → Type 0
+IsAsked words identity command now old response new = IsAnswered old.setup (AsksDesk words now old new identity command) response
 
 -- the request is served at this moment; without a response memory was wanted
 abbrev pub Serves : {D : Type 0} → DiskWords D → Incoming → ℕ → Desk D → Option Response → Desk D → Type 0
-Serves words incoming now old response new = ServesAs words (reading_of old.setup incoming) now old response new
+Serves words incoming now old response new =
+    ServesAs old.setup (AsksDesk words now old new) (reading_of old.setup incoming) old response new
 
 -- the statuses of refusals without the desk
 abbrev pub is_read_status : ℕ → Bool

@@ -1,13 +1,17 @@
 -- Computed examples: steps of a world whose ledger is empty or has an event in doubt.
 use Rattle.gt_desk.specs.History.{Ledger}
+use Rattle.gt_desk.specs.declared.fault.DeskFault.TheVariants.{JournalFault as DiskFailed}
 use Rattle.gt_machine.specs.MachineState.{empty_state}
+use Rattle.gt_requests.specs.declared.fault.RequestFault.TheVariants.{Refused}
+use Rattle.gt_service.specs.Service.{refusal_of, response_of}
 use Rattle.gt_setup.specs.Setup.{Setup}
 use Rattle.gt_types.specs.declared.command.Command.TheVariants.{IssueId}
 use Rattle.gt_types.specs.declared.event.Event.{Event}
 use Rattle.gt_types.specs.declared.event.Happening.TheVariants.{Issue}
 use Rattle.gt_types.specs.declared.reply.Reply.TheVariants.{Identifier}
-use Rattle.gt_world.specs.World.{Ask, NoMemory, Quiet, Reopen, Reopened, Replied, SetMoment, Unavailable, World, WorldStep, world_on}
-use Rattle.std.proofs.Common.{List, None, Some, [], ap, inl, inr, refl, rules, true, ◌∷◌, ◌≡◌, ℕ}
+use Rattle.gt_types.specs.declared.reply.ReplyCode.TheVariants.{JournalFault, NotFound}
+use Rattle.gt_world.specs.World.{NoMemory, Quiet, Reopen, Reopened, ServesWorld, SetMoment, World, WorldStep, world_on}
+use Rattle.std.proofs.Common.{Err, List, None, Ok, Some, [], ap, inl, inr, refl, rules, true, ◌∷◌, ◌≡◌, ℕ}
 use Rattle.std.proofs.Math.Nat.{le_refl}
 
 abbrev ann : List ℕ
@@ -51,33 +55,45 @@ abbrev with_issued : Ledger
 with_issued = record { history = issued ∷ []; machine = record (empty_state 7) { issued = 1; greatest = 100; events = 1 }; doubt = None }
 
 -- a request for an identifier is told the first one, and its event is behind the history
-pub identifier_told : WorldStep setup true (at 100) (Ask ann IssueId) (Replied (Identifier 1)) (record (at 100) { ledger = with_issued })
-identifier_told = record {
-  moved = issued ∷ [];
+pub identifier_told : ServesWorld setup (Ok (ann, IssueId)) (at 100) (Some (response_of setup (Identifier 1))) (record (at 100) { ledger = with_issued })
+identifier_told = inr (record {
+  answer = Ok (Identifier 1);
   call = record {
-    runs = refl;
-    comes = inl (record {
-      kept = [];
-      settles = refl;
-      settled = empty_state 7;
-      leads = refl;
-      made = issued ∷ [];
-      moves = refl;
-      records = (refl, refl, refl);
-    });
+    moved = issued ∷ [];
+    call = record {
+      runs = refl;
+      comes = inl (record {
+        kept = [];
+        settles = refl;
+        settled = empty_state 7;
+        leads = refl;
+        made = issued ∷ [];
+        moves = refl;
+        records = (refl, refl, refl);
+      });
+    };
+    history = refl;
+    step = record { frame = refl; later = le_refl 0 };
   };
-  history = refl;
-  step = record { frame = refl; later = le_refl 0 };
-}
+  told = refl;
+})
 
 -- the world with the event in doubt, behind a fault of the disk
 abbrev doubtful : World
 doubtful = record { ledger = record empty { doubt = Some issued }; moment = 100; faults = 1 }
 
+-- a request that isn't read is told so, and an event in doubt stays in doubt
+pub refusal_told : ServesWorld setup (Err (Refused NotFound [])) doubtful (Some (refusal_of NotFound [])) doubtful
+refusal_told = record { still = refl; told = refl }
+
+pub refusal_settles_nothing : ServesWorld setup (Err (Refused NotFound [])) doubtful (Some (refusal_of NotFound [])) (record doubtful { ledger = with_issued }) → ⊥
+refusal_settles_nothing is = let same : 1 ≡ 0 = ap (λ (w : World). w.ledger.machine.issued) is.still in absurd (cc same)
+
 -- the journal failed, which was counted: the caller is told so, and the event may count
-pub fault_told : WorldStep setup true (at 100) (Ask ann IssueId) Unavailable doubtful
-fault_told = (
-  record {
+pub fault_told : ServesWorld setup (Ok (ann, IssueId)) (at 100) (Some (refusal_of JournalFault [])) doubtful
+fault_told = inr (record {
+  answer = Err DiskFailed;
+  call = record {
     moved = [];
     call = record {
       runs = refl;
@@ -93,9 +109,9 @@ fault_told = (
     };
     history = refl;
     step = record { frame = refl; later = search rules };
-  },
-  le_refl 1,
-)
+  };
+  told = refl;
+})
 
 -- a restart finds that the event counts, or that it doesn't
 pub doubt_kept : WorldStep setup true doubtful Reopen Reopened (record doubtful { ledger = with_issued })

@@ -6,12 +6,15 @@ use Rattle.gt_desk.specs.declared.fault.OpenFault.TheVariants.{Damaged, JournalF
 use Rattle.gt_machine.specs.MachineState.{MachineState, empty_state}
 use Rattle.gt_machine.specs.Run.{run_from, run_of}
 use Rattle.gt_machine.specs.Sound.{IsSound}
+use Rattle.gt_requests.specs.declared.incoming.Incoming.{Incoming}
+use Rattle.gt_service.specs.Service.{Response}
 use Rattle.gt_setup.specs.Setup.{Setup}
 use Rattle.gt_types.specs.declared.event.Event.{Event}
-use Rattle.std.proofs.Common.{Bool, List, Some, [], subst, sym, ⊎_elim, ◌++◌, ◌∷◌, ◌≡◌}
+use Rattle.std.proofs.Common.{Bool, List, None, Option, Some, [], subst, sym, ⊎_elim, ◌++◌, ◌∷◌, ◌≡◌}
 use Rattle.std.specs.List.{AllByRecursion}
-use Rattle.gt_world.specs.SoundRuns.{AreSound, IsSoundThroughout}
-use Rattle.gt_world.specs.World.{Ask, NoMemory, NotOpened, Quiet, Reopen, Reopened, Replied, SetMoment, Step, StepAnswer, Taken, Unavailable, World, WorldRun, WorldStep}
+use Rattle.gt_world.specs.RunFacts.{of_served}
+use Rattle.gt_world.specs.SoundRuns.{AreSound, HasOneTaskThroughout, HaveOneTaskEach, IsSoundThroughout}
+use Rattle.gt_world.specs.World.{IsServed, NoMemory, NotOpened, Quiet, Reopen, Reopened, Replied, Request, SetMoment, Step, StepAnswer, Taken, World, WorldRun, WorldStep}
 
 -- what the machine says of runs
 pub record RunLaws (setup : Setup) : Type 0 where
@@ -44,11 +47,15 @@ module _ (setup : Setup) (laws : RunLaws setup) where
   runs_closed honest old (Damaged number) new fails runs = subst (λ (l : Ledger). run_of setup l.history ≡ Some l.machine) (sym fails.1) runs
   runs_closed honest old OutOfMemory new fails runs = subst (λ (l : Ledger). run_of setup l.history ≡ Some l.machine) (sym fails) runs
 
+  served_runs : (incoming : Incoming) (old : World) (response : Option Response) (new : World) → Runs old → IsServed setup incoming old response new → Runs new
+  served_runs incoming old response new before =
+      of_served (Runs new) setup incoming old response new (λ same. subst Runs (sym same) before)
+      (λ identity command answer asks. longer old.ledger.history old.ledger.machine new.ledger.machine new.ledger.history asks.moved before asks.call.runs asks.history)
+
   module _ (honest : Bool) where
     step_runs : (old new : World) (step : Step) (answer : StepAnswer) → WorldStep setup honest old step answer new → Runs old → Runs new
-    step_runs old new (Ask identity command) (Replied reply) is before = longer old.ledger.history old.ledger.machine new.ledger.machine new.ledger.history is.moved before is.call.runs is.history
-    step_runs old new (Ask identity command) Unavailable is before = longer old.ledger.history old.ledger.machine new.ledger.machine new.ledger.history is.0.moved before is.0.call.runs is.0.history
-    step_runs old new (Ask identity command) NoMemory is before = longer old.ledger.history old.ledger.machine new.ledger.machine new.ledger.history is.moved before is.call.runs is.history
+    step_runs old new (Request incoming) (Replied response) is before = served_runs incoming old (Some response) new before is
+    step_runs old new (Request incoming) NoMemory is before = served_runs incoming old None new before is
     step_runs old new (SetMoment moment) Quiet is before = subst Runs (sym is) before
     step_runs old new Reopen Reopened is before = longer is.found.history is.found.machine new.ledger.machine new.ledger.history (opening_events is.found.machine) is.opens.found_runs is.opens.moves is.history
     step_runs old new Reopen (NotOpened fault) is before = runs_closed honest old.ledger fault new.ledger is.fails before
@@ -64,3 +71,18 @@ module _ (setup : Setup) (laws : RunLaws setup) where
     -- and each history of a run
     pub run_is_sound : (start : World) (steps : List Taken) → WorldRun setup honest start steps → Runs start → AreSound setup start steps
     run_is_sound start steps run runs = record { first = sound_throughout start.ledger.history start.ledger.machine runs; behind = sound_steps start steps run runs }
+
+module _ (setup : Setup) where
+  one_throughout : (history : List Event) → IsSoundThroughout setup history → HasOneTaskThroughout setup history
+  one_throughout history sound before rest whole =
+      let (machine, runs, is) = sound before rest whole in
+      (machine, runs, is.one_task_per_submission)
+
+  one_behind : (steps : List Taken) → AllByRecursion (λ taken. IsSoundThroughout setup taken.world.ledger.history) steps
+      → AllByRecursion (λ taken. HasOneTaskThroughout setup taken.world.ledger.history) steps
+  one_behind [] all = tt
+  one_behind (taken ∷ rest) all = (one_throughout taken.world.ledger.history all.0, one_behind rest all.1)
+
+  -- sound states have one task a submission
+  pub one_task_each : (start : World) (steps : List Taken) → AreSound setup start steps → HaveOneTaskEach setup start steps
+  one_task_each start steps are = record { first = one_throughout start.ledger.history are.first; behind = one_behind steps are.behind }

@@ -5,11 +5,14 @@ use Rattle.gt_desk.specs.Opening.{FailsToReopen, opening_events}
 use Rattle.gt_desk.specs.declared.fault.OpenFault.{OpenFault}
 use Rattle.gt_desk.specs.declared.fault.OpenFault.TheVariants.{Damaged, JournalFault, OutOfMemory}
 use Rattle.gt_disk.specs.Disk.{DiskWords, LeavesOnly}
+use Rattle.gt_requests.specs.declared.incoming.Incoming.{Incoming}
+use Rattle.gt_service.specs.Service.{Response}
 use Rattle.gt_setup.specs.Setup.{Setup}
 use Rattle.gt_types.specs.declared.event.Event.{Event}
-use Rattle.std.proofs.Common.{List, [], ap, append-nil, append_assoc, refl, subst, sym, true, ⊎_elim, ◌++◌, ◌∙◌, ◌∷◌, ◌≡◌}
+use Rattle.std.proofs.Common.{List, None, Option, Some, [], ap, append-nil, append_assoc, refl, subst, sym, true, ⊎_elim, ◌++◌, ◌∙◌, ◌∷◌, ◌≡◌}
 use Rattle.gt_world.specs.Crashes.{CrashesKeep, CrashesUpTo, KeepsAcknowledged}
-use Rattle.gt_world.specs.World.{Ask, NoMemory, NotOpened, Quiet, Reopen, Reopened, Replied, SetMoment, Step, StepAnswer, Taken, Unavailable, World, WorldRun, WorldStep, world_after}
+use Rattle.gt_world.specs.RunFacts.{of_served}
+use Rattle.gt_world.specs.World.{IsServed, NoMemory, NotOpened, Quiet, Reopen, Reopened, Replied, Request, SetMoment, Step, StepAnswer, Taken, World, WorldRun, WorldStep, world_after}
 
 -- the events that a step put behind the history
 abbrev Grows : List Event → List Event → Type 0
@@ -28,10 +31,14 @@ grows_closed setup old JournalFault new fails =
 grows_closed setup old (Damaged number) new fails = still old new fails.1
 grows_closed setup old OutOfMemory new fails = still old new fails
 
+grows_served : (setup : Setup) (incoming : Incoming) (old : World) (response : Option Response) (new : World) → IsServed setup incoming old response new → Grows old.ledger.history new.ledger.history
+grows_served setup incoming old response new =
+    of_served (Grows old.ledger.history new.ledger.history) setup incoming old response new (λ same. still old.ledger new.ledger (ap (λ (world : World). world.ledger) same))
+    (λ identity command answer asks. (asks.moved, asks.history))
+
 grows : (setup : Setup) (old new : World) (step : Step) (answer : StepAnswer) → WorldStep setup true old step answer new → Grows old.ledger.history new.ledger.history
-grows setup old new (Ask identity command) (Replied reply) is = (is.moved, is.history)
-grows setup old new (Ask identity command) Unavailable is = (is.0.moved, is.0.history)
-grows setup old new (Ask identity command) NoMemory is = (is.moved, is.history)
+grows setup old new (Request incoming) (Replied response) is = grows_served setup incoming old (Some response) new is
+grows setup old new (Request incoming) NoMemory is = grows_served setup incoming old None new is
 grows setup old new (SetMoment moment) Quiet is = still old.ledger new.ledger (ap (λ (world : World). world.ledger) is)
 grows setup old new Reopen Reopened is =
     let f = is.finds refl in

@@ -4,15 +4,17 @@ use Rattle.gt_desk.specs.DeskCall.{DeskCall}
 use Rattle.gt_desk.specs.History.{Ledger}
 use Rattle.gt_desk.specs.Opening.{FailsToReopen, Finds, Opens, opening_events}
 use Rattle.gt_desk.specs.declared.fault.DeskFault.{DeskFault}
-use Rattle.gt_desk.specs.declared.fault.DeskFault.TheVariants.{JournalFault as DeskJournalFault, OutOfMemory as DeskOutOfMemory}
 use Rattle.gt_desk.specs.declared.fault.OpenFault.{OpenFault}
 use Rattle.gt_desk.specs.declared.fault.OpenFault.TheVariants.{JournalFault}
 use Rattle.gt_machine.specs.Answer.{answer_of}
+use Rattle.gt_requests.specs.declared.fault.RequestFault.{RequestFault}
+use Rattle.gt_requests.specs.declared.incoming.Incoming.{Incoming}
+use Rattle.gt_service.specs.Service.{Response, ServesAs, reading_of}
 use Rattle.gt_setup.specs.Setup.{Setup}
 use Rattle.gt_types.specs.declared.command.Command.{Command}
 use Rattle.gt_types.specs.declared.event.Event.{Event}
 use Rattle.gt_types.specs.declared.reply.Reply.{Reply}
-use Rattle.std.specs.Prelude.{Bool, Err, IsTrue, List, Ok, Result, [], ◌++◌, ◌∷◌, ◌≡◌, ◌≤◌, ℕ}
+use Rattle.std.specs.Prelude.{Bool, IfSome, IsTrue, List, None, Option, Result, Some, [], ◌++◌, ◌∷◌, ◌≡◌, ◌≤◌, ℕ}
 
 -- the ledger of the desk, the present moment in seconds since 1970, and the count of the disk's faults
 pub record World : Type 0 where
@@ -24,16 +26,16 @@ pub record World : Type 0 where
 abbrev pub world_on : Ledger → ℕ → World
 world_on ledger faults = record { ledger = ledger; moment = 0; faults = faults }
 
--- what a line asks of the world: a request of a caller, another moment, or that the desk is closed and opened again
+-- what is asked of the world: a request as it comes in, another moment, or that the desk is closed and opened again
 pub data Step : Type 0 where
-  Ask : (identity : List ℕ) (command : Command) → Step
+  Request : (incoming : Incoming) → Step
   SetMoment : (moment : ℕ) → Step
   Reopen : Step
 
--- what a step is told: a reply, that the journal failed, nothing, that the desk is open again or isn't, or that memory was wanted
+-- what a step is told: a status and the bytes of a document, nothing, that the desk is open again or isn't, or that memory was
+-- wanted
 pub data StepAnswer : Type 0 where
-  Replied : (reply : Reply) → StepAnswer
-  Unavailable : StepAnswer
+  Replied : (response : Response) → StepAnswer
   Quiet : StepAnswer
   Reopened : StepAnswer
   NotOpened : (fault : OpenFault) → StepAnswer
@@ -44,12 +46,22 @@ pub record IsDeskStep (old new : World) : Type 0 where
   pub frame : new ≡ record old { ledger = new.ledger; faults = new.faults }
   pub later : old.faults ≤ new.faults
 
--- a request was made of the desk
+-- the desk was asked for a caller's command
 pub record Asks (setup : Setup) (identity : List ℕ) (command : Command) (old : World) (result : Result Reply DeskFault) (new : World) : Type 0 where
   pub moved : List Event
   pub call : DeskCall setup (λ m. answer_of setup m identity command old.moment) old.ledger result moved new.ledger
   pub history : new.ledger.history ≡ old.ledger.history ++ moved
   pub step : IsDeskStep old new
+
+-- A request that is read so was served at the present moment, by the service's definition; without a response memory was
+-- wanted.
+abbrev pub ServesWorld : Setup → Result (List ℕ × Command) RequestFault → World → Option Response → World → Type 0
+ServesWorld setup reading old response new = ServesAs setup (λ identity command answer. Asks setup identity command old answer new) reading old response new
+
+-- A request was served. It is told that the journal failed only where a fault was counted.
+pub record IsServed (setup : Setup) (incoming : Incoming) (old : World) (response : Option Response) (new : World) : Type 0 where
+  pub serves : ServesWorld setup (reading_of setup incoming) old response new
+  pub cause : IfSome response (λ r. r.0 ≡ 503 → Rose old.faults new.faults)
 
 -- The desk was closed and opened: where the disk is honest, the doubt was settled and nothing else, and then opened.
 pub record Reopens (setup : Setup) (honest : Bool) (old new : World) : Type 0 where
@@ -67,9 +79,8 @@ pub record StaysClosed (setup : Setup) (honest : Bool) (old : World) (fault : Op
 
 -- from `old` the step may be told so, and lead to `new`
 abbrev pub WorldStep : Setup → Bool → World → Step → StepAnswer → World → Type 0
-WorldStep setup honest old (Ask identity command) (Replied reply) new = Asks setup identity command old (Ok reply) new
-WorldStep setup honest old (Ask identity command) Unavailable new = Asks setup identity command old (Err DeskJournalFault) new × Rose old.faults new.faults
-WorldStep setup honest old (Ask identity command) NoMemory new = Asks setup identity command old (Err DeskOutOfMemory) new
+WorldStep setup honest old (Request incoming) (Replied response) new = IsServed setup incoming old (Some response) new
+WorldStep setup honest old (Request incoming) NoMemory new = IsServed setup incoming old None new
 WorldStep setup honest old (SetMoment moment) Quiet new = new ≡ record old { moment = moment }
 WorldStep setup honest old Reopen Reopened new = Reopens setup honest old new
 WorldStep setup honest old Reopen (NotOpened fault) new = StaysClosed setup honest old fault new

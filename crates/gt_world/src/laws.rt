@@ -2,7 +2,7 @@
 ghost use Rattle.gt_machine.specs.Run.{run_of};
 ghost use Rattle.gt_setup.specs.Setup.{Setup};
 ghost use Rattle.gt_world.specs.Crashes.{CrashesKeep, KeepsAcknowledged};
-ghost use Rattle.gt_world.specs.SoundRuns.{AreSound};
+ghost use Rattle.gt_world.specs.SoundRuns.{AreSound, HaveOneTaskEach};
 ghost use Rattle.gt_world.specs.World.{Taken, World, WorldRun};
 ghost use Rattle.std.specs.Prelude.{Bool, List, Some, true, ◌≡◌};
 
@@ -21,11 +21,14 @@ pub fn acknowledged_events_stay_in_a_run<D: Disk>()
     acknowledged_events_stay::<D>();
 }
 
-/// From a world whose history leads to its state, each history of a run leads through sound states, whatever the disk tells.
+/// From a world whose history leads to its state, each history of a run leads through sound states, whatever the disk tells:
+/// so in each of them an owner's submission identifier has made at most one task.
 pub fn histories_of_a_run_are_sound()
-    ensures { (setup : Setup) (honest : Bool) (start : World) (steps : List Taken)
+    ensures sound { (setup : Setup) (honest : Bool) (start : World) (steps : List Taken)
         → run_of setup start.ledger.history ≡ Some start.ledger.machine
         → WorldRun setup honest start steps → AreSound setup start steps }
+    ensures one_task { (setup : Setup) (start : World) (steps : List Taken)
+        → AreSound setup start steps → HaveOneTaskEach setup start steps }
 {
     runs_are_sound();
     runs_go_on();
