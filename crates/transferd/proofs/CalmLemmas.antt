@@ -1,29 +1,34 @@
 -- A run in which the disk's count of faults didn't rise prints and adds what its lines do where nothing fails.
 use Rattle.gt_causes.specs.Causes.{Rose}
-use Rattle.gt_desk.specs.DeskCall.{Decides, IsKept}
+use Rattle.gt_desk.specs.DeskCall.{Decides, FailsToSettle, IsKept}
 use Rattle.gt_desk.specs.Opening.{opening_events}
+use Rattle.gt_desk.specs.declared.fault.DeskFault.{DeskFault}
+use Rattle.gt_desk.specs.declared.fault.DeskFault.TheVariants.{JournalFault, OutOfMemory as DeskOutOfMemory}
 use Rattle.gt_machine.specs.Answer.{answer_of}
 use Rattle.gt_machine.specs.Decision.{events_in, said}
 use Rattle.gt_machine.specs.MachineState.{MachineState, empty_state}
 use Rattle.gt_machine.specs.Run.{run_from, run_of}
 use Rattle.gt_machine.specs.TaskLine.{task_lines}
 use Rattle.gt_machine.specs.declared.decision.Decision.{Decision}
+use Rattle.gt_requests.specs.declared.fault.RequestFault.{RequestFault}
+use Rattle.gt_requests.specs.declared.fault.RequestFault.TheVariants.{OutOfMemory, Refused}
 use Rattle.gt_script.specs.declared.line.Line.{Line}
 use Rattle.gt_script.specs.declared.line.Line.TheVariants.{End, Now, Restart, Send}
+use Rattle.gt_service.specs.Service.{IsAnswered, IsUntouched, RefusesAs, Response, reading_of, refusal_of, response_of, response_to}
 use Rattle.gt_setup.specs.Setup.{Setup}
 use Rattle.gt_types.specs.declared.command.Command.{Command}
 use Rattle.gt_types.specs.declared.event.Event.{Event}
 use Rattle.gt_types.specs.declared.reply.Reply.{Reply}
+use Rattle.gt_types.specs.declared.reply.ReplyCode.TheVariants.{JournalFault as Unavailable}
 use Rattle.gt_world.specs.RunFacts.{run_later}
-use Rattle.gt_world.specs.World.{Ask, Asks, NoMemory, Reopen, Reopens, Replied, SetMoment, StepAnswer, Taken, Unavailable, World, WorldRun, WorldStep, world_after}
-use Rattle.std.proofs.Common.{Bool, IsTrue, List, Ok, Option, Some, [], ap, append-nil, append_assoc, arith, length, refl, subst, sym, ⊎_elim, ◌++◌, ◌∙◌, ◌∷◌, ◌≡◌, ◌≤◌, ℕ}
+use Rattle.gt_world.specs.World.{Asks, NoMemory, Reopen, Reopens, Replied, Request, ServesWorld, SetMoment, StepAnswer, Taken, World, WorldRun, WorldStep, world_after}
+use Rattle.std.proofs.Common.{Bool, Err, IsTrue, List, Ok, Option, Result, Some, [], ap, append-nil, append_assoc, arith, length, refl, subst, sym, ⊎_elim, ◌++◌, ◌∙◌, ◌∷◌, ◌≡◌, ◌≤◌, ℕ}
 use Rattle.std.proofs.Math.Nat.{le_refl, le_trans}
 use Rattle.std.specs.Option.{option_map_or}
 use Rattle.std.specs.Prelude.{IsSome}
 use Rattle.transferd.specs.Calm.{IsCalmRun, IsSettled, calm, decided, events_of, moment_behind, state_of, text_of}
-use Rattle.transferd.specs.Output.{answer_text, line_output, out_text, reply_line, restart_text, table_text}
-use Rattle.transferd.specs.Requests.{response_in}
-use Rattle.transferd.specs.Run.{Makes, Played, ScriptRun, lines_of, world_at}
+use Rattle.transferd.specs.Output.{answer_text, line_output, out_text, response_text, restart_text, table_text}
+use Rattle.transferd.specs.Run.{Makes, Played, ScriptRun, incoming_of, lines_of, response_in, world_at}
 
 -- what the machine says of runs that go on
 abbrev pub GoesOn : Setup → Type 0
@@ -52,29 +57,31 @@ module _ (setup : Setup) where
   module _ (go_on : GoesOn setup) (honest : Bool) (t : IsTrue honest) where
     -- a line of a settled world, in which no fault was counted
     record CalmLine (start : World) (line : Line) (steps : List Taken) : Type 0 where
-      text : line_output setup start line steps ≡ text_of setup start.ledger.history start.moment line
-      history : (world_after start steps).ledger.history ≡ start.ledger.history ++ events_of setup start.ledger.history start.moment line
+      text : line_output start line steps ≡ text_of (reading_of setup) setup start.ledger.history start.moment line
+      history : (world_after start steps).ledger.history ≡ start.ledger.history ++ events_of (reading_of setup) setup start.ledger.history start.moment line
       moment : (world_after start steps).moment ≡ moment_behind start.moment line
       settled : IsSettled setup (world_after start steps)
 
-    -- the reply to a request, and its events
-    record CalmAnswer (start : World) (identity : List ℕ) (command : Command) (answer : StepAnswer) (new : World) : Type 0 where
-      text : answer_text setup answer ≡ reply_line setup (said (decided setup start.ledger.history start.moment identity command))
-      history : new.ledger.history ≡ start.ledger.history ++ events_in (decided setup start.ledger.history start.moment identity command)
+    -- the response to a request that is read so, and its events
+    record CalmAnswer (start : World) (reading : Result (List ℕ × Command) RequestFault) (response : Response) (new : World) : Type 0 where
+      told : (decided setup start.ledger.history start.moment reading).0 ≡ Some response
+      history : new.ledger.history ≡ start.ledger.history ++ (decided setup start.ledger.history start.moment reading).1
       moment : new.moment ≡ start.moment
       settled : IsSettled setup new
 
     replied : (start new : World) (identity : List ℕ) (command : Command) (reply : Reply) → IsSettled setup start → (is : Asks setup identity command start (Ok reply) new)
-        → Decides setup (λ m. answer_of setup m identity command start.moment) start.ledger (Ok reply) is.moved new.ledger → CalmAnswer start identity command (Replied reply) new
+        → Decides setup (λ m. answer_of setup m identity command start.moment) start.ledger (Ok reply) is.moved new.ledger → CalmAnswer start (Ok (identity, command)) (response_of setup reply) new
     replied start new identity command reply settled is d =
         let h = start.ledger.history in
         let kept : d.kept ≡ [] = subst (λ o. IsKept o d.kept) settled.clear d.settles in
         let leads : Some start.ledger.machine ≡ Some d.settled = subst (λ k. run_from setup start.ledger.machine k ≡ Some d.settled) kept d.leads in
         let state : d.settled ≡ state_of setup h = sym (one_state start.ledger.machine d.settled leads) ∙ sym (state_is h start.ledger.machine settled.runs) in
-        let decision : answer_of setup d.settled identity command start.moment ≡ decided setup h start.moment identity command = ap (λ m. answer_of setup m identity command start.moment) state in
-        let moved : is.moved ≡ events_in (decided setup h start.moment identity command) = d.moves ∙ ap (λ k. k ++ d.made) kept ∙ d.records.1 ∙ ap (λ (it : Decision Reply). events_in it) decision in
+        let decision : answer_of setup d.settled identity command start.moment ≡ answer_of setup (state_of setup h) identity command start.moment =
+        ap (λ m. answer_of setup m identity command start.moment) state in
+        let moved : is.moved ≡ events_in (answer_of setup (state_of setup h) identity command start.moment) =
+        d.moves ∙ ap (λ k. k ++ d.made) kept ∙ d.records.1 ∙ ap (λ (it : Decision Reply). events_in it) decision in
         record {
-          text = ap (λ r. reply_line setup r) (d.records.0 ∙ ap (λ (it : Decision Reply). said it) decision);
+          told = ap (λ r. Some (response_of setup r)) (sym (d.records.0 ∙ ap (λ (it : Decision Reply). said it) decision));
           history = is.history ∙ ap (λ e. h ++ e) moved;
           moment = ap (λ (w : World). w.moment) is.step.frame;
           settled = record {
@@ -83,21 +90,49 @@ module _ (setup : Setup) where
           };
         }
 
-    answered : (start new : World) (identity : List ℕ) (command : Command) (answer : StepAnswer) → IsSome (response_in setup answer) → WorldStep setup honest start (Ask identity command) answer new
-        → IsSettled setup start → NotRose start.faults new.faults → CalmAnswer start identity command answer new
-    answered start new identity command (Replied reply) has is settled none =
-        ⊎_elim (λ d. replied start new identity command reply settled is d) (λ fails. let never : ⊥ = cc (fails.fault) in absurd never) is.call.comes
-    answered start new identity command Unavailable has is settled none = absurd (none is.1)
-    answered start new identity command NoMemory has is settled none = let never : ⊥ = cc has in absurd never
-    answered start new identity command answer has is settled none = absurd is
+    -- the desk was asked, and its disk didn't fail
+    asked : (start new : World) (identity : List ℕ) (command : Command) (answer : Result Reply DeskFault) (response : Response) → IsSettled setup start → Asks setup identity command start answer new
+        → response_to setup answer ≡ Some response → (response.0 ≡ 503 → ⊥) → CalmAnswer start (Ok (identity, command)) response new
+    asked start new identity command (Ok reply) response settled is told none =
+        let same : response_of setup reply ≡ response = cc told in
+        subst (λ r. CalmAnswer start (Ok (identity, command)) r new) same
+        (⊎_elim (λ (d : Decides setup (λ m. answer_of setup m identity command start.moment) start.ledger (Ok reply) is.moved new.ledger). replied start new identity command reply settled is d)
+        (λ (fails : FailsToSettle start.ledger (Ok reply) is.moved new.ledger). let never : ⊥ = cc (fails.fault) in absurd never) is.call.comes)
+    asked start new identity command (Err JournalFault) response settled is told none =
+        let same : refusal_of Unavailable [] ≡ response = cc told in
+        absurd (none (ap (λ (r : Response). r.0) (sym same)))
+    asked start new identity command (Err DeskOutOfMemory) response settled is told none = let never : ⊥ = cc told in absurd never
 
-    request : (start : World) (identity : List ℕ) (command : Command) (taken : Taken) → CalmAnswer start identity command taken.answer taken.world → CalmLine start (Send identity command) (taken ∷ [])
-    request start identity command taken is = record {
-      text = append-nil (answer_text setup taken.answer) ∙ is.text;
-      history = is.history;
-      moment = is.moment;
-      settled = is.settled;
+    -- nothing was done
+    refused : (start new : World) (fault : RequestFault) (response : Response) → IsSettled setup start → new ≡ start → RefusesAs fault (Some response) → CalmAnswer start (Err fault) response new
+    refused start new (Refused code place) response settled same told = record {
+      told = ap (λ (r : Response). Some r) (sym told);
+      history = ap (λ (w : World). w.ledger.history) same ∙ sym (append-nil start.ledger.history);
+      moment = ap (λ (w : World). w.moment) same;
+      settled = subst (IsSettled setup) (sym same) settled;
     }
+    refused start new OutOfMemory response settled same told = let never : ⊥ = cc told in absurd never
+
+    served : (start new : World) (reading : Result (List ℕ × Command) RequestFault) (response : Response) → IsSettled setup start → ServesWorld setup reading start (Some response) new → (response.0 ≡ 503 → ⊥)
+        → CalmAnswer start reading response new
+    served start new (Ok request) response settled is none =
+        ⊎_elim (λ (u : IsUntouched start (Some response) new). let never : ⊥ = cc (u.none) in absurd never)
+        (λ (a : IsAnswered setup (λ answer. Asks setup request.0 request.1 start answer new) (Some response)). asked start new request.0 request.1 a.answer response settled a.call a.told none) is
+    served start new (Err fault) response settled is none = refused start new fault response settled is.still is.told
+
+    answered : (start : World) (token : Option (List ℕ)) (method target body : List ℕ) (taken : Taken) (answer : StepAnswer) → taken.answer ≡ answer → IsSome (response_in answer)
+        → WorldStep setup honest start (Request (incoming_of token method target body)) answer taken.world → IsSettled setup start → NotRose start.faults taken.world.faults
+        → CalmLine start (Send token method target body) (taken ∷ [])
+    answered start token method target body taken (Replied response) told has is settled none =
+        let calm = served start taken.world (reading_of setup (incoming_of token method target body)) response settled is.serves (λ failed. none (is.cause failed)) in
+        record {
+          text = append-nil (answer_text taken.answer) ∙ ap answer_text told ∙ ap (λ (o : Option Response). option_map_or response_text o []) (sym calm.told);
+          history = calm.history;
+          moment = calm.moment;
+          settled = calm.settled;
+        }
+    answered start token method target body taken NoMemory told has is settled none = let never : ⊥ = cc has in absurd never
+    answered start token method target body taken answer told has is settled none = absurd is
 
     reopened : (start : World) (taken : Taken) → IsSettled setup start → Reopens setup honest start taken.world → CalmLine start Restart (taken ∷ [])
     reopened start taken settled is =
@@ -127,7 +162,7 @@ module _ (setup : Setup) where
       settled = subst (IsSettled setup) (sym is) (record { runs = settled.runs; clear = settled.clear });
     }
 
-    calm_line : (start : World) (line : Line) (steps : List Taken) → Makes setup line steps → WorldRun setup honest start steps → IsSettled setup start → NotRose start.faults (world_after start steps).faults
+    calm_line : (start : World) (line : Line) (steps : List Taken) → Makes line steps → WorldRun setup honest start steps → IsSettled setup start → NotRose start.faults (world_after start steps).faults
         → CalmLine start line steps
     calm_line start End [] makes run settled none = record {
       text = ap (λ m. table_text (length start.ledger.history) (task_lines m)) (sym (state_is start.ledger.history start.ledger.machine settled.runs));
@@ -139,9 +174,8 @@ module _ (setup : Setup) where
     calm_line start (Now moment) (taken ∷ []) makes run settled none =
         another_moment start moment taken settled
         (subst (λ a. WorldStep setup honest start (SetMoment moment) a taken.world) makes.1 (subst (λ s. WorldStep setup honest start s taken.answer taken.world) makes.0 run.0))
-    calm_line start (Send identity command) (taken ∷ []) makes run settled none =
-        request start identity command taken
-        (answered start taken.world identity command taken.answer makes.1 (subst (λ s. WorldStep setup honest start s taken.answer taken.world) makes.0 run.0) settled none)
+    calm_line start (Send token method target body) (taken ∷ []) makes run settled none =
+        answered start token method target body taken taken.answer refl makes.1 (subst (λ s. WorldStep setup honest start s taken.answer taken.world) makes.0 run.0) settled none
     calm_line start Restart (taken ∷ []) makes run settled none =
         reopened start taken settled
         (subst (λ a. WorldStep setup honest start Reopen a taken.world) makes.1 (subst (λ s. WorldStep setup honest start s taken.answer taken.world) makes.0 run.0))
@@ -159,17 +193,18 @@ module _ (setup : Setup) where
         let last = world_at mid rest in
         let first = calm_line start played.line played.steps lines.0 lines.1 settled (λ rose. none (rose_within start.faults start.faults mid.faults last.faults (le_refl start.faults) (lines_later mid rest lines.2) rose)) in
         let behind = calm_run mid rest first.settled lines.2 (λ rose. none (rose_within start.faults mid.faults last.faults last.faults (run_later setup honest start played.steps lines.1) (le_refl last.faults) rose)) in
-        let events = events_of setup h start.moment played.line in
-        let text = text_of setup h start.moment played.line in
+        let reads = reading_of setup in
+        let events = events_of reads setup h start.moment played.line in
+        let text = text_of reads setup h start.moment played.line in
         let moment = moment_behind start.moment played.line in
         let others = lines_of rest in
-        let same : calm setup mid.ledger.history mid.moment others ≡ calm setup (h ++ events) moment others =
-        ap (λ e. calm setup e mid.moment others) first.history ∙ ap (λ n. calm setup (h ++ events) n others) first.moment in
+        let same : calm reads setup mid.ledger.history mid.moment others ≡ calm reads setup (h ++ events) moment others =
+        ap (λ e. calm reads setup e mid.moment others) first.history ∙ ap (λ n. calm reads setup (h ++ events) n others) first.moment in
         record {
-          text = ap (λ s. s ++ out_text setup mid rest) first.text ∙ ap (λ s. text ++ s) (behind.text ∙ ap (λ (it : List ℕ × List Event). it.0) same);
+          text = ap (λ s. s ++ out_text mid rest) first.text ∙ ap (λ s. text ++ s) (behind.text ∙ ap (λ (it : List ℕ × List Event). it.0) same);
           history =
-              behind.history ∙ ap (λ e. e ++ (calm setup mid.ledger.history mid.moment others).1) first.history
+              behind.history ∙ ap (λ e. e ++ (calm reads setup mid.ledger.history mid.moment others).1) first.history
               ∙ ap (λ (it : List ℕ × List Event). (h ++ events) ++ it.1) same
-              ∙ append_assoc h events (calm setup (h ++ events) moment others).1;
+              ∙ append_assoc h events (calm reads setup (h ++ events) moment others).1;
           settled = behind.settled;
         }

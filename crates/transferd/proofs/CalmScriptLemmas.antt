@@ -5,6 +5,7 @@ use Rattle.gt_causes.specs.Outcomes.{NoMore}
 use Rattle.gt_disk.specs.Disk.{DiskWords}
 use Rattle.gt_machine.specs.MachineState.{empty_state}
 use Rattle.gt_machine.specs.Run.{run_of}
+use Rattle.gt_service.specs.Service.{reading_of}
 use Rattle.gt_setup.specs.Grammar.{setup_of}
 use Rattle.gt_setup.specs.Setup.{Setup}
 use Rattle.gt_types.specs.declared.event.Event.{Event}
@@ -46,10 +47,10 @@ module _ {D : Type 0} (words : DiskWords D) (honest : Bool) (setup : Setup) (go_
       let lines = lines_of ran.run in
       let events = opening_events (state_of setup found) in
       let opened : s.opened.history ≡ found ++ events = s.history ∙ ap (λ m. found ++ opening_events m) (sym (state_is setup found s.found.machine s.opens.found_runs)) in
-      let same : calm setup s.opened.history 0 lines ≡ calm setup (found ++ events) 0 lines = ap (λ h. calm setup h 0 lines) opened in
-      let added = (calm setup (found ++ events) 0 lines).1 in
+      let same : calm (reading_of setup) setup s.opened.history 0 lines ≡ calm (reading_of setup) setup (found ++ events) 0 lines = ap (λ h. calm (reading_of setup) setup h 0 lines) opened in
+      let added = (calm (reading_of setup) setup (found ++ events) 0 lines).1 in
       let history : last.ledger.history ≡ found ++ (events ++ added) =
-      is.history ∙ ap (λ h. h ++ (calm setup s.opened.history 0 lines).1) opened ∙ ap (λ (it : List ℕ × List Event). (found ++ events) ++ it.1) same ∙ append_assoc found events added in
+      is.history ∙ ap (λ h. h ++ (calm (reading_of setup) setup s.opened.history 0 lines).1) opened ∙ ap (λ (it : List ℕ × List Event). (found ++ events) ++ it.1) same ∙ append_assoc found events added in
       let gave : Gave setup lines script [] = ends.read told in
       let stands : NoMore (Stands setup last.ledger) (words.may_leave new) = subst (λ (w : World). NoMore (Stands setup w.ledger) (words.may_leave new)) at_end (ran.kept t) in
       let clear : NoMore (StandsFor setup last.ledger.history) (words.may_leave new) = subst (λ d. NoMore (StandsWith setup last.ledger.history d) (words.may_leave new)) is.settled.clear stands in

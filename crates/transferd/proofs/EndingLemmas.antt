@@ -38,13 +38,13 @@ ends_in OutOfMemory setup start run last script out stop = inr stop
 ends_in exit setup start run last script out stop = absurd stop.stops
 
 -- what was written before the line, in other words
-stops_behind : (exit : Exit) (setup : Setup) (start : World) (line : Line) (steps : List Taken) (out : Stream) (before : List ℕ) → (IsTrue out.told → out.before ≡ before) → StopsLine exit setup start line steps out
-    → StopsLine exit setup start line steps (record out { before = before })
-stops_behind SinkFault setup start line steps out before same (makes, part) = (makes, λ t. subst (λ (b : List ℕ). IsPart (line_output setup start line steps) b out.after) (same t) (part t))
-stops_behind JournalFault setup start line steps out before same (is, fails, none) = (is, fails, λ t. none t ∙ same t)
-stops_behind (Damaged number) setup start line steps out before same (is, fails, none) = (is, fails, λ t. none t ∙ same t)
-stops_behind OutOfMemory setup start line steps out before same (made, none) = (made, λ t. none t ∙ same t)
-stops_behind exit setup start line steps out before same stops = absurd stops
+stops_behind : (exit : Exit) (start : World) (line : Line) (steps : List Taken) (out : Stream) (before : List ℕ) → (IsTrue out.told → out.before ≡ before) → StopsLine exit start line steps out
+    → StopsLine exit start line steps (record out { before = before })
+stops_behind SinkFault start line steps out before same (makes, part) = (makes, λ t. subst (λ (b : List ℕ). IsPart (line_output start line steps) b out.after) (same t) (part t))
+stops_behind JournalFault start line steps out before same (is, fails, none) = (is, fails, λ t. none t ∙ same t)
+stops_behind (Damaged number) start line steps out before same (is, fails, none) = (is, fails, λ t. none t ∙ same t)
+stops_behind OutOfMemory start line steps out before same (made, none) = (made, λ t. none t ∙ same t)
+stops_behind exit start line steps out before same stops = absurd stops
 
 -- what holds of a disk, a setup and a sink holds in other words for them
 pub carried : (F : Bool → Setup → Bool → Type 0) (honest truth : Bool) (setup opened : Setup) (told telling : Bool) → honest ≡ truth → setup ≡ opened → told ≡ telling → F honest setup told → F truth opened telling
@@ -196,7 +196,7 @@ module _ {D : Type 0} (words : DiskWords D) (honest : Bool) where
             unended = so_far.unended;
             line = line;
             read = gave_all;
-            stops = stops_behind exit setup here line stop.steps (record { told = out.told; before = out.after; after = written }) (out.before ++ out_text setup start so_far.run) so_far.written stop.stops;
+            stops = stops_behind exit here line stop.steps (record { told = out.told; before = out.after; after = written }) (out.before ++ out_text start so_far.run) so_far.written stop.stops;
           });
           crashes = crashes_on new stop.steps stop.crashes;
           kept = stop.kept;
@@ -210,13 +210,13 @@ module _ {D : Type 0} (words : DiskWords D) (honest : Bool) where
           all_lines : ScriptRun setup honest start (so_far.run ++ played ∷ [])
           all_lines = script_run_more setup honest start so_far.run played so_far.lines ran.makes ran.run
 
-          all_written : IsTrue out.told → written ≡ out.before ++ out_text setup start (so_far.run ++ played ∷ [])
+          all_written : IsTrue out.told → written ≡ out.before ++ out_text start (so_far.run ++ played ∷ [])
           all_written t =
               wrote t
               ∙ ap (λ s. out.after ++ s) (sym ran.prints)
-              ∙ ap (λ s. s ++ line_output setup here line ran.steps) (so_far.written t)
-              ∙ append_assoc out.before (out_text setup start so_far.run) (line_output setup here line ran.steps)
-              ∙ ap (λ s. out.before ++ s) (sym (out_text_more setup start so_far.run played))
+              ∙ ap (λ s. s ++ line_output here line ran.steps) (so_far.written t)
+              ∙ append_assoc out.before (out_text start so_far.run) (line_output here line ran.steps)
+              ∙ ap (λ s. out.before ++ s) (sym (out_text_more start so_far.run played))
 
           leads_on : IsPresent words honest setup (world_at start (so_far.run ++ played ∷ [])) next
           leads_on = subst (λ w. IsPresent words honest setup w next) (sym (world_at_more start so_far.run played)) ran.leads

@@ -59,6 +59,7 @@ module _ {A B : Type 0} (at : A → B) (loan : A → ℕ) (words : DiskWords B) 
       opening = λ t. once old is.disk (StandsDuring setup is.found is.opened) (is.opening t);
       ran = ran _ is.disk new script out is.ran;
       sound = is.sound;
+      one_task_per_submission = is.one_task_per_submission;
       acknowledged = λ t before rest split.
           let (mid, up, stay) = is.acknowledged t before rest split in
           (at mid, keeps_up_to setup is.disk (world_on is.opened (words.faults (at is.disk))) before mid up, leaves mid new (Keeps setup (world_after (world_on is.opened (words.faults (at is.disk))) before).ledger.history) stay);

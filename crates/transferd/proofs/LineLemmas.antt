@@ -1,12 +1,10 @@
 -- What the lines make and print.
 use Rattle.gt_causes.specs.Causes.{Rose}
 use Rattle.gt_causes.specs.Outcomes.{NoMore}
-use Rattle.gt_desk.specs.Desk.{IsCall, Stays, StaysDuring}
+use Rattle.gt_desk.specs.Desk.{Desk, Stays, StaysDuring}
 use Rattle.gt_desk.specs.DeskCall.{of_history}
 use Rattle.gt_desk.specs.History.{Ledger, Stands, StandsDuring, StandsWith}
 use Rattle.gt_desk.specs.Opening.{FailsToReopen, Finds, IsNotReopened, IsReopened, opening_events}
-use Rattle.gt_desk.specs.declared.fault.DeskFault.{DeskFault}
-use Rattle.gt_desk.specs.declared.fault.DeskFault.TheVariants.{JournalFault as DeskJournalFault, OutOfMemory as DeskOutOfMemory}
 use Rattle.gt_desk.specs.declared.fault.OpenFault.{OpenFault}
 use Rattle.gt_desk.specs.declared.fault.OpenFault.TheVariants.{Damaged as OpenDamaged, JournalFault as OpenJournalFault, OutOfMemory as OpenOutOfMemory}
 use Rattle.gt_desk.specs.declared.fault.OpenRefused.{OpenRefused}
@@ -16,37 +14,37 @@ use Rattle.gt_machine.specs.Answer.{answer_of}
 use Rattle.gt_machine.specs.MachineState.{MachineState, empty_state}
 use Rattle.gt_machine.specs.Run.{run_from, run_of}
 use Rattle.gt_machine.specs.TaskLine.{task_lines}
+use Rattle.gt_requests.specs.declared.fault.RequestFault.{RequestFault}
+use Rattle.gt_requests.specs.declared.incoming.Incoming.{Incoming}
 use Rattle.gt_script.specs.declared.line.Line.{Line}
 use Rattle.gt_script.specs.declared.line.Line.TheVariants.{End, Now, Restart, Send}
+use Rattle.gt_service.specs.Service.{AsksDesk, IsAsked, IsUntouched, Response, Serves, ServesAs, reading_of}
 use Rattle.gt_setup.specs.Setup.{Setup}
 use Rattle.gt_types.specs.declared.command.Command.{Command}
 use Rattle.gt_types.specs.declared.event.Event.{Event}
-use Rattle.gt_types.specs.declared.reply.Reply.{Reply}
-use Rattle.gt_types.specs.declared.reply.Reply.TheVariants.{Refused}
-use Rattle.gt_types.specs.declared.reply.ReplyCode.TheVariants.{JournalFault as ReplyJournalFault}
-use Rattle.std.proofs.Common.{Bool, Err, IsTrue, List, Ok, Result, Some, [], ap, append-nil, inl, inr, length, refl, subst, sym, ⊎_elim, ◌⊎◌, ◌++◌, ◌∙◌, ◌∷◌, ◌≡◌, ℕ}
+use Rattle.std.proofs.Common.{Bool, Err, IsTrue, List, None, Ok, Option, Result, Some, [], ap, append-nil, inl, inr, length, refl, subst, sym, ⊎_elim, ◌⊎◌, ◌++◌, ◌∙◌, ◌∷◌, ◌≡◌, ℕ}
+use Rattle.std.specs.Prelude.{IfSome}
 use Rattle.gt_world.specs.CrashFacts.{crashes_step}
 use Rattle.gt_world.specs.Crashes.{CrashesKeep}
 use Rattle.transferd.specs.Endings.{Stream, StopsLine, WroteNothing}
 use Rattle.transferd.specs.Exits.{exit_of_open}
-use Rattle.transferd.specs.Output.{IsPart, line_output, reply_line, restart_text, table_text}
+use Rattle.transferd.specs.Output.{IsPart, line_output, response_text, restart_text, table_text}
 use Rattle.transferd.specs.Progress.{IsPresent, MadeLine, StoppedLine, world_of}
-use Rattle.transferd.specs.Requests.{IsReplyTo}
-use Rattle.transferd.specs.Run.{Makes, ReopenFails}
-use Rattle.gt_world.specs.World.{Ask, Asks, IsDeskStep, NoMemory, NotOpened, Quiet, Reopen, Reopened, Replied, SetMoment, Step, StepAnswer, Taken, Unavailable, World, WorldStep}
+use Rattle.transferd.specs.Run.{Makes, ReopenFails, incoming_of}
+use Rattle.gt_world.specs.World.{IsDeskStep, IsServed, NoMemory, NotOpened, Quiet, Reopen, Reopened, Replied, Request, ServesWorld, SetMoment, Step, StepAnswer, Taken, World, WorldStep}
 use Rattle.transferd.specs.declared.exit.Exit.{Exit}
 use Rattle.transferd.specs.declared.exit.Exit.TheVariants.{OutOfMemory, SinkFault}
 use Rattle.transferd.specs.declared.session.Session.{Session}
 
 -- a restart's line stops in an opening that failed
-stops_open : (fault : OpenFault) (setup : Setup) (start : World) (steps : List Taken) → ReopenFails fault steps → (out : Stream) → WroteNothing out → StopsLine (exit_of_open fault) setup start Restart steps out
-stops_open OpenJournalFault setup start steps is out none = (refl, is, none)
-stops_open (OpenDamaged number) setup start steps is out none = (refl, is, none)
-stops_open OpenOutOfMemory setup start steps is out none = (inr (inr is), none)
+stops_open : (fault : OpenFault) (start : World) (steps : List Taken) → ReopenFails fault steps → (out : Stream) → WroteNothing out → StopsLine (exit_of_open fault) start Restart steps out
+stops_open OpenJournalFault start steps is out none = (refl, is, none)
+stops_open (OpenDamaged number) start steps is out none = (refl, is, none)
+stops_open OpenOutOfMemory start steps is out none = (inr (inr is), none)
 
 -- a line whose text was not made, or not written
 module _ {D : Type 0} (words : DiskWords D) (honest : Bool) (setup : Setup) (line : Line) (start : World) (old : D) (session : Session D) (text : List ℕ) (made : MadeLine words honest setup line start old session text) where
-  stopped_as : (exit : Exit) (disk : D) → disk ≡ session.desk.disk → (out : Stream) → StopsLine exit setup start line made.steps out → StoppedLine words honest exit setup line start old disk out
+  stopped_as : (exit : Exit) (disk : D) → disk ≡ session.desk.disk → (out : Stream) → StopsLine exit start line made.steps out → StoppedLine words honest exit setup line start old disk out
   stopped_as exit disk same out stops =
       subst (λ (d : D). StoppedLine words honest exit setup line start old d out) (sym same) (record {
         steps = made.steps;
@@ -181,70 +179,103 @@ module _ {D : Type 0} (words : DiskWords D) (laws : DiskLaws words) where
         (new_images t) (λ c left. laws.only_now new.desk.disk c (kept.honest ∙ t) left)
 
     -- the step, and how a line with it stands
-    step_made : (step : Step) (answer : StepAnswer) (line : Line) (text : List ℕ) → Makes under line (taken step answer ∷ []) → (IsDeskStep before after → WorldStep under truth before step answer after)
-        → line_output under before line (taken step answer ∷ []) ≡ text → MadeLine words truth under line before old.desk.disk new text
+    step_made : (step : Step) (answer : StepAnswer) (line : Line) (text : List ℕ) → Makes line (taken step answer ∷ []) → (IsDeskStep before after → WorldStep under truth before step answer after)
+        → line_output before line (taken step answer ∷ []) ≡ text → MadeLine words truth under line before old.desk.disk new text
     step_made step answer line text makes is prints =
         record { steps = taken step answer ∷ []; makes = makes; run = (is is_step, tt); leads = leads_on; crashes = step_crashes step answer; prints = prints }
 
     -- the step, and the run stops
     step_stopped : (step : Step) (answer : StepAnswer) (line : Line) (out : Stream) → (IsDeskStep before after → WorldStep under truth before step answer after)
-        → StopsLine OutOfMemory under before line (taken step answer ∷ []) out → StoppedLine words truth OutOfMemory under line before old.desk.disk new.desk.disk out
+        → StopsLine OutOfMemory before line (taken step answer ∷ []) out → StoppedLine words truth OutOfMemory under line before old.desk.disk new.desk.disk out
     step_stopped step answer line out is stops =
         record { steps = taken step answer ∷ []; run = (is is_step, tt); crashes = step_crashes step answer; kept = new_images; count = refl; stops = stops }
 
-  -- a request of the desk
-  module _ (old new : Session D) (identity : List ℕ) (command : Command) (result : Result Reply DeskFault)
-      (call : IsCall words (λ m. answer_of old.desk.setup m identity command old.now) old.desk result new.desk) (kept : IsSameDisk words old.desk.disk new.desk.disk) (new_setup : new.desk.setup ≡ old.desk.setup) (moment : new.now ≡ old.now)
-      (during : StaysDuring words old.desk new.desk) (images : Stays words new.desk) (cause : result ≡ Err DeskJournalFault → Rose (words.faults old.desk.disk) (words.faults new.desk.disk))
+  -- a request that was served
+  module _ (old new : Session D) (incoming : Incoming) (response : Option Response) (served : Serves words incoming old.now old.desk response new.desk)
+      (kept : IsSameDisk words old.desk.disk new.desk.disk) (new_setup : new.desk.setup ≡ old.desk.setup) (moment : new.now ≡ old.now) (during : StaysDuring words old.desk new.desk) (images : Stays words new.desk)
+      (cause : IfSome response (λ r. r.0 ≡ 503 → Rose (words.faults old.desk.disk) (words.faults new.desk.disk)))
       (go_on : (setup : Setup) (m middle last : MachineState) (front back : List Event) → run_from setup m front ≡ Some middle → run_from setup middle back ≡ Some last → run_from setup m (front ++ back) ≡ Some last)
       (start : World) (leads : IsPresent words (words.honest old.desk.disk) old.desk.setup start old) where
     abbrev history : List Event
     history = start.ledger.history
 
-    abbrev later : List Event
-    later = history ++ call.moved
+    abbrev now_before : World
+    now_before = world_of words old history
 
-    is_new : IsTrue (words.honest old.desk.disk) → later ≡ new.desk.ledger.history
-    is_new t = ap (λ (h : List Event). h ++ call.moved) (leads.history t) ∙ sym (call.history t)
+    -- the history behind the request, which was read so
+    record Behind (reading : Result (List ℕ × Command) RequestFault) : Type 0 where
+      later : List Event
+      is_new : IsTrue (words.honest old.desk.disk) → later ≡ new.desk.ledger.history
+      runs : run_of old.desk.setup later ≡ Some new.desk.ledger.machine
+      serves : IsDeskStep now_before (world_of words new later) → ServesWorld old.desk.setup reading now_before response (world_of words new later)
 
-    later_runs : run_of old.desk.setup later ≡ Some new.desk.ledger.machine
-    later_runs = go_on old.desk.setup (empty_state old.desk.setup.namespace) old.desk.ledger.machine new.desk.ledger.machine history call.moved leads.runs call.call.runs
+    unchanged : new.desk ≡ old.desk → world_of words new history ≡ now_before
+    unchanged same =
+        ap (λ (m : ℕ). record { ledger = record new.desk.ledger { history = history }; moment = m; faults = words.faults new.desk.disk }) moment
+        ∙ ap (λ (d : Desk D). record { ledger = record d.ledger { history = history }; moment = old.now; faults = words.faults d.disk }) same
 
-    asks : IsDeskStep (world_of words old history) (world_of words new later) → Asks old.desk.setup identity command (world_of words old history) result (world_of words new later)
-    asks step = record {
-      moved = call.moved;
-      call = of_history old.desk.setup (λ m. answer_of old.desk.setup m identity command old.now) history old.desk.ledger result call.moved new.desk.ledger call.call;
-      history = refl;
-      step = step;
+    -- the desk wasn't asked
+    as_before : (reading : Result (List ℕ × Command) RequestFault) → new.desk ≡ old.desk
+        → (world_of words new history ≡ now_before → ServesWorld old.desk.setup reading now_before response (world_of words new history)) → Behind reading
+    as_before reading same serves = record {
+      later = history;
+      is_new = λ t. leads.history t ∙ ap (λ (d : Desk D). d.ledger.history) (sym same);
+      runs = leads.runs ∙ ap (λ (d : Desk D). Some d.ledger.machine) (sym same);
+      serves = λ step. serves (unchanged same);
     }
 
-    request_as : (r : Result Reply DeskFault) → result ≡ r → (reply : Reply) → IsReplyTo r reply
-        → MadeLine words (words.honest old.desk.disk) old.desk.setup (Send identity command) (world_of words old history) old.desk.disk new (reply_line old.desk.setup reply)
-    request_as (Ok said) is reply same =
-        step_made old new history later kept new_setup moment leads.history is_new during images later_runs (Ask identity command) (Replied said) (Send identity command) (reply_line old.desk.setup reply) (refl, refl)
-        (λ step. subst (λ r. Asks old.desk.setup identity command (world_of words old history) r (world_of words new later)) is (asks step))
-        (append-nil (reply_line old.desk.setup said) ∙ ap (λ r. reply_line old.desk.setup r) (sym same))
-    request_as (Err DeskJournalFault) is reply same =
-        step_made old new history later kept new_setup moment leads.history is_new during images later_runs (Ask identity command) Unavailable (Send identity command) (reply_line old.desk.setup reply) (refl, refl)
-        (λ step. (subst (λ r. Asks old.desk.setup identity command (world_of words old history) r (world_of words new later)) is (asks step), cause is))
-        (append-nil (reply_line old.desk.setup (Refused ReplyJournalFault)) ∙ ap (λ r. reply_line old.desk.setup r) (sym same))
-    request_as (Err DeskOutOfMemory) is reply same = absurd same
+    -- it was asked
+    as_asked : (identity : List ℕ) (command : Command) → IsAsked words identity command old.now old.desk response new.desk → Behind (Ok (identity, command))
+    as_asked identity command asked =
+        let call = asked.call in
+        record {
+          later = history ++ call.moved;
+          is_new = λ t. ap (λ (h : List Event). h ++ call.moved) (leads.history t) ∙ sym (call.history t);
+          runs = go_on old.desk.setup (empty_state old.desk.setup.namespace) old.desk.ledger.machine new.desk.ledger.machine history call.moved leads.runs call.call.runs;
+          serves = λ step.
+              inr (record {
+                answer = asked.answer;
+                call = record {
+                  moved = call.moved;
+                  call = of_history old.desk.setup (λ m. answer_of old.desk.setup m identity command old.now) history old.desk.ledger asked.answer call.moved new.desk.ledger call.call;
+                  history = refl;
+                  step = step;
+                };
+                told = asked.told;
+              });
+        }
 
-    -- a request that was answered, or told that the journal failed
-    pub request_made : (reply : Reply) → IsReplyTo result reply → MadeLine words (words.honest old.desk.disk) old.desk.setup (Send identity command) start old.desk.disk new (reply_line old.desk.setup reply)
-    request_made reply is =
-        subst (λ w. MadeLine words (words.honest old.desk.disk) old.desk.setup (Send identity command) w old.desk.disk new (reply_line old.desk.setup reply)) (sym leads.is) (request_as result refl reply is)
+    by_reading : (reading : Result (List ℕ × Command) RequestFault) → ServesAs old.desk.setup (AsksDesk words old.now old.desk new.desk) reading old.desk response new.desk → Behind reading
+    by_reading (Ok request) is =
+        ⊎_elim (λ (u : IsUntouched old.desk response new.desk). as_before (Ok request) u.still (λ same. inl (record { still = same; none = u.none })))
+        (λ (asked : IsAsked words request.0 request.1 old.now old.desk response new.desk). as_asked request.0 request.1 asked) is
+    by_reading (Err fault) is = as_before (Err fault) is.still (λ same. record { still = same; told = is.told })
 
-    -- one for which memory was wanted
-    pub request_stopped : result ≡ Err DeskOutOfMemory → (exit : Exit) → exit ≡ OutOfMemory → (disk : D) → disk ≡ new.desk.disk → (out : Stream) → out.after ≡ out.before
-        → StoppedLine words (words.honest old.desk.disk) exit old.desk.setup (Send identity command) start old.desk.disk disk out
-    request_stopped is exit same_exit disk same_disk out wrote =
-        subst (λ (e : Exit). StoppedLine words (words.honest old.desk.disk) e old.desk.setup (Send identity command) start old.desk.disk disk out) (sym same_exit)
-        (subst (λ (d : D). StoppedLine words (words.honest old.desk.disk) OutOfMemory old.desk.setup (Send identity command) start old.desk.disk d out) (sym same_disk)
-        (subst (λ w. StoppedLine words (words.honest old.desk.disk) OutOfMemory old.desk.setup (Send identity command) w old.desk.disk new.desk.disk out) (sym leads.is)
-        (step_stopped old new history later kept new_setup moment leads.history is_new during images later_runs (Ask identity command) NoMemory (Send identity command) out
-        (λ step. subst (λ r. Asks old.desk.setup identity command (world_of words old history) r (world_of words new later)) is (asks step))
-        (inr (inr (refl, refl)), λ t. wrote))))
+    behind : Behind (reading_of old.desk.setup incoming)
+    behind = by_reading (reading_of old.desk.setup incoming) served
+
+    is_served : (r : Option Response) → response ≡ r → IsDeskStep now_before (world_of words new behind.later) → IsServed old.desk.setup incoming now_before r (world_of words new behind.later)
+    is_served r is step = subst (λ o. IsServed old.desk.setup incoming now_before o (world_of words new behind.later)) is (record { serves = behind.serves step; cause = cause })
+
+    -- the line of a request that has a response
+    pub request_made : (token : Option (List ℕ)) (method target body : List ℕ) → incoming ≡ incoming_of token method target body → (r : Response) → response ≡ Some r
+        → MadeLine words (words.honest old.desk.disk) old.desk.setup (Send token method target body) start old.desk.disk new (response_text r)
+    request_made token method target body same r is =
+        let line = Send token method target body in
+        subst (λ w. MadeLine words (words.honest old.desk.disk) old.desk.setup line w old.desk.disk new (response_text r)) (sym leads.is)
+        (step_made old new history behind.later kept new_setup moment leads.history behind.is_new during images behind.runs (Request incoming) (Replied r) line (response_text r)
+        (ap (λ (i : Incoming). Request i) same, refl) (is_served (Some r) is) (append-nil (response_text r)))
+
+    -- the line of one for which memory was wanted
+    pub request_stopped : (token : Option (List ℕ)) (method target body : List ℕ) → incoming ≡ incoming_of token method target body → response ≡ None → (exit : Exit) → exit ≡ OutOfMemory → (disk : D) → disk ≡ new.desk.disk
+        → (out : Stream) → out.after ≡ out.before → StoppedLine words (words.honest old.desk.disk) exit old.desk.setup (Send token method target body) start old.desk.disk disk out
+    request_stopped token method target body same is exit same_exit disk same_disk out wrote =
+        let line = Send token method target body in
+        subst (λ (e : Exit). StoppedLine words (words.honest old.desk.disk) e old.desk.setup line start old.desk.disk disk out) (sym same_exit)
+        (subst (λ (d : D). StoppedLine words (words.honest old.desk.disk) OutOfMemory old.desk.setup line start old.desk.disk d out) (sym same_disk)
+        (subst (λ w. StoppedLine words (words.honest old.desk.disk) OutOfMemory old.desk.setup line w old.desk.disk new.desk.disk out) (sym leads.is)
+        (step_stopped old new history behind.later kept new_setup moment leads.history behind.is_new during images behind.runs (Request incoming) NoMemory line out
+        (is_served None is) (inr (inr (ap (λ (i : Incoming). Request i) same, refl)), λ t. wrote))))
 
   -- a restart
   module _ (old new : Session D) (reopened : IsReopened words old.desk new.desk) (kept : IsSameDisk words old.desk.disk new.desk.disk) (new_setup : new.desk.setup ≡ old.desk.setup) (moment : new.now ≡ old.now)
@@ -326,7 +357,7 @@ module _ {D : Type 0} (words : DiskWords D) (laws : DiskLaws words) where
           crashes = λ t. crashes_step words old.desk.setup old.desk.disk refused.disk from taken (during t) (still_images t) (λ c left. laws.only_now refused.disk c (kept.honest ∙ t) left);
           kept = still_images;
           count = refl;
-          stops = stops_open refused.fault old.desk.setup from (taken ∷ []) (refl, refl) out (λ t. wrote);
+          stops = stops_open refused.fault from (taken ∷ []) (refl, refl) out (λ t. wrote);
         }
 
     pub restart_stopped : (exit : Exit) → exit ≡ exit_of_open refused.fault → (out : Stream) → out.after ≡ out.before

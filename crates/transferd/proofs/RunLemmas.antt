@@ -8,7 +8,7 @@ use Rattle.transferd.specs.Output.{line_output, out_text}
 use Rattle.transferd.specs.Run.{IsUnended, Makes, Played, ScriptRun, lines_of, steps_of, world_at}
 use Rattle.gt_world.specs.World.{Taken, World, WorldRun, world_after}
 
-pub script_run_more : (setup : Setup) (honest : Bool) (start : World) (run : List Played) (played : Played) → ScriptRun setup honest start run → Makes setup played.line played.steps
+pub script_run_more : (setup : Setup) (honest : Bool) (start : World) (run : List Played) (played : Played) → ScriptRun setup honest start run → Makes played.line played.steps
     → WorldRun setup honest (world_at start run) played.steps → ScriptRun setup honest start (run ++ played ∷ [])
 script_run_more setup honest start [] played so_far makes steps = (makes, steps, tt)
 script_run_more setup honest start (first ∷ rest) played so_far makes steps = (so_far.0, so_far.1, script_run_more setup honest (world_after start first.steps) rest played so_far.2 makes steps)
@@ -34,12 +34,12 @@ pub unended_more : (lines : List Line) (line : Line) → IsUnended lines → lin
 unended_more [] line so_far other = (other, tt)
 unended_more (first ∷ rest) line so_far other = (so_far.0, unended_more rest line so_far.1 other)
 
-pub out_text_more : (setup : Setup) (start : World) (run : List Played) (played : Played) → out_text setup start (run ++ played ∷ []) ≡ out_text setup start run ++ line_output setup (world_at start run) played.line played.steps
-out_text_more setup start [] played = append-nil (line_output setup start played.line played.steps)
-out_text_more setup start (first ∷ rest) played =
-    let front = line_output setup start first.line first.steps in
+pub out_text_more : (start : World) (run : List Played) (played : Played) → out_text start (run ++ played ∷ []) ≡ out_text start run ++ line_output (world_at start run) played.line played.steps
+out_text_more start [] played = append-nil (line_output start played.line played.steps)
+out_text_more start (first ∷ rest) played =
+    let front = line_output start first.line first.steps in
     let after = world_after start first.steps in
-    ap (λ (s : List ℕ). front ++ s) (out_text_more setup after rest played) ∙ sym (append_assoc front (out_text setup after rest) (line_output setup (world_at after rest) played.line played.steps))
+    ap (λ (s : List ℕ). front ++ s) (out_text_more after rest played) ∙ sym (append_assoc front (out_text after rest) (line_output (world_at after rest) played.line played.steps))
 
 -- the steps of all lines, and those behind them, are one run
 pub all_steps : (setup : Setup) (honest : Bool) (start : World) (run : List Played) (last : List Taken) → ScriptRun setup honest start run → WorldRun setup honest (world_at start run) last → WorldRun setup honest start (steps_of run ++ last)

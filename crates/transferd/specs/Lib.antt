@@ -6,6 +6,5 @@ pub mod MainTheorem
 pub mod Opening
 pub mod Output
 pub mod Progress
-pub mod Requests
 pub mod Run
 pub mod Words

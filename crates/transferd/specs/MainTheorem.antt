@@ -1,7 +1,8 @@
 -- The main theorem: what a script reads, prints and keeps is that of one run of its lines through the machine, whenever it stops,
 -- and a crash at any moment leaves the run's history on the disk.
 --
--- replies: the steps of each line are in Run.antt, those of a request in Requests.antt, and what a step does in gt_world/specs/World.antt
+-- replies: the steps of each line are in Run.antt, what a step does in gt_world/specs/World.antt, and what a request is served
+--   in gt_service/specs/Service.antt: the first refusal of the order in Grounds.antt there, or the machine's answer
 -- bytes: those read and written in Endings.antt, what a line prints in Output.antt, and all of it where nothing fails in Calm.antt
 -- crash: gt_world/specs/Crashes.antt, and the next script on the disk in Chain.antt
 -- exit: how a run ends with each in Endings.antt, which one comes in Exits.antt, and a desk that isn't opened in Opening.antt
@@ -18,7 +19,7 @@ use Rattle.gt_world.specs.Crashes.{CrashesKeep, KeepsAcknowledged}
 use Rattle.transferd.specs.Endings.{Stream, EndsAs}
 use Rattle.transferd.specs.Opening.{IsNotRead, IsOpenFaultOf, IsRead, IsUntouched}
 use Rattle.transferd.specs.Run.{Played, ScriptRun, steps_of, world_at}
-use Rattle.gt_world.specs.SoundRuns.{AreSound}
+use Rattle.gt_world.specs.SoundRuns.{AreSound, HaveOneTaskEach}
 use Rattle.gt_world.specs.World.{Taken, World, WorldRun, world_after, world_on}
 use Rattle.transferd.specs.declared.exit.Exit.{Exit}
 
@@ -54,6 +55,8 @@ module _ {D : Type 0} (words : DiskWords D) (honest : Bool) where
     pub ran : Ran exit setup (world_on opened (words.faults disk)) disk new script out
     -- each history of the run leads through sound states
     pub sound : AreSound setup (world_on opened (words.faults disk)) (steps_of ran.run ++ ran.last)
+    -- in each of them an owner's submission identifier has made at most one task
+    pub one_task_per_submission : HaveOneTaskEach setup (world_on opened (words.faults disk)) (steps_of ran.run ++ ran.last)
     -- nothing acknowledged is lost, through restarts too
     pub acknowledged : IsTrue honest → KeepsAcknowledged words setup disk (world_on opened (words.faults disk)) (steps_of ran.run ++ ran.last) new
 

@@ -2,16 +2,14 @@
 use Rattle.gt_machine.specs.TaskLine.{task_lines}
 use Rattle.gt_machine.specs.declared.line.TaskLine.{TaskLine}
 use Rattle.gt_replies.specs.Words.{status_name, type_name}
-use Rattle.gt_setup.specs.Setup.{Setup}
+use Rattle.gt_service.specs.Service.{Response}
 use Rattle.gt_script.specs.declared.line.Line.{Line}
 use Rattle.gt_script.specs.declared.line.Line.TheVariants.{End, Now, Restart, Send}
-use Rattle.gt_types.specs.declared.reply.Reply.{Reply}
 use Rattle.std.specs.Fmt.{decimal}
 use Rattle.std.specs.List.{flat_map}
 use Rattle.std.specs.Option.{option_map_or}
 use Rattle.std.specs.Prelude.{List, [], codes, length, take, ◌++◌, ◌<◌, ◌∷◌, ◌≡◌, ℕ}
-use Rattle.transferd.specs.Requests.{Response, response_in, response_of}
-use Rattle.transferd.specs.Run.{Played}
+use Rattle.transferd.specs.Run.{Played, response_in}
 use Rattle.gt_world.specs.World.{StepAnswer, Taken, World, world_after}
 
 -- some bytes at the front of a text were written behind those before, and not all
@@ -56,25 +54,20 @@ restart_text events = codes "restart " ++ (decimal events ++ 10 ∷ [])
 -- what a response prints: `reply STATUS LENGTH`, and its body on a line
 abbrev pub response_text : Response → List ℕ
 response_text response =
-    codes "reply " ++ (decimal response.status ++ (codes " " ++ (decimal (length response.body) ++ 10 ∷ [])))
-    ++ response.body ++ 10 ∷ []
-
--- what a reply prints
-abbrev pub reply_line : Setup → Reply → List ℕ
-reply_line setup reply = response_text (response_of setup reply)
+    codes "reply " ++ (decimal response.0 ++ (codes " " ++ (decimal (length response.1) ++ 10 ∷ []))) ++ response.1 ++ 10 ∷ []
 
 -- what a request prints, by what its step was told
-abbrev pub answer_text : Setup → StepAnswer → List ℕ
-answer_text setup answer = option_map_or response_text (response_in setup answer) []
+abbrev pub answer_text : StepAnswer → List ℕ
+answer_text answer = option_map_or response_text (response_in answer) []
 
 -- what a line prints, by its steps from the world before it
-abbrev pub line_output : Setup → World → Line → List Taken → List ℕ
-line_output setup start End steps = end_text start
-line_output setup start (Now moment) steps = []
-line_output setup start (Send identity command) steps = flat_map (λ taken. answer_text setup taken.answer) steps
-line_output setup start Restart steps = restart_text (length (world_after start steps).ledger.history)
+abbrev pub line_output : World → Line → List Taken → List ℕ
+line_output start End steps = end_text start
+line_output start (Now moment) steps = []
+line_output start (Send token method target body) steps = flat_map (λ taken. answer_text taken.answer) steps
+line_output start Restart steps = restart_text (length (world_after start steps).ledger.history)
 
 -- what a run prints
-abbrev pub out_text : Setup → World → List Played → List ℕ
-out_text setup start [] = []
-out_text setup start (played ∷ rest) = line_output setup start played.line played.steps ++ out_text setup (world_after start played.steps) rest
+abbrev pub out_text : World → List Played → List ℕ
+out_text start [] = []
+out_text start (played ∷ rest) = line_output start played.line played.steps ++ out_text (world_after start played.steps) rest

@@ -63,11 +63,11 @@ module _ {D : Type 0} (words : DiskWords D) (honest : Bool) where
   -- a whole line: its steps, the session that they lead to, what a crash leaves meanwhile, and what it prints
   pub record MadeLine (setup : Setup) (line : Line) (start : World) (old : D) (session : Session D) (text : List ℕ) : Type 0 where
     pub steps : List Taken
-    pub makes : Makes setup line steps
+    pub makes : Makes line steps
     pub run : WorldRun setup honest start steps
     pub leads : IsPresent setup (world_after start steps) session
     pub crashes : IsTrue honest → CrashesKeep words setup old start steps session.desk.disk
-    pub prints : line_output setup start line steps ≡ text
+    pub prints : line_output start line steps ≡ text
 
   -- a line that the run stopped in
   pub record StoppedLine (exit : Exit) (setup : Setup) (line : Line) (start : World) (old new : D) (out : Stream) : Type 0 where
@@ -76,7 +76,7 @@ module _ {D : Type 0} (words : DiskWords D) (honest : Bool) where
     pub crashes : IsTrue honest → CrashesKeep words setup old start steps new
     pub kept : IsTrue honest → NoMore (Stands setup (world_after start steps).ledger) (words.may_leave new)
     pub count : (world_after start steps).faults ≡ words.faults new
-    pub stops : StopsLine exit setup start line steps out
+    pub stops : StopsLine exit start line steps out
 
   -- so many lines have run, none of them the end, and their texts have that many bytes
   pub record Progress (setup : Setup) (start : World) (first : D) (number : ℕ) (session : Session D) (taken : ℕ) (script out : Stream) : Type 0 where
@@ -87,7 +87,7 @@ module _ {D : Type 0} (words : DiskWords D) (honest : Bool) where
     pub leads : IsPresent setup (world_at start run) session
     pub crashes : IsTrue honest → CrashesKeep words setup first start (steps_of run) session.desk.disk
     pub read : IsTrue script.told → (text : List ℕ) × ScriptText setup (lines_of run) text × (script.before ≡ text ++ script.after) × (length text ≡ taken)
-    pub written : IsTrue out.told → out.after ≡ out.before ++ out_text setup start run
+    pub written : IsTrue out.told → out.after ≡ out.before ++ out_text start run
 
 -- From each world that the session stands for: the line was made, with the text that it prints; or the run stopped in it, and
 -- nothing was written.

@@ -1,34 +1,48 @@
 -- A run of a script: its lines, each with the steps that it made.
 use Rattle.gt_desk.specs.declared.fault.OpenFault.{OpenFault}
+use Rattle.gt_requests.specs.declared.incoming.Incoming.{Incoming}
 use Rattle.gt_script.specs.declared.line.Line.{Line}
 use Rattle.gt_script.specs.declared.line.Line.TheVariants.{End, Now, Restart, Send}
+use Rattle.gt_service.specs.Service.{Response}
 use Rattle.gt_setup.specs.Setup.{Setup}
 use Rattle.std.specs.List.{AllByRecursion, flat_map}
-use Rattle.std.specs.Prelude.{Bool, List, [], map, ◌++◌, ◌∷◌, ◌≡◌, ◌≢◌}
-use Rattle.gt_world.specs.World.{IsOneStep, NotOpened, Quiet, Reopen, Reopened, SetMoment, Taken, World, WorldRun, world_after}
-use Rattle.transferd.specs.Requests.{MakesRequest}
+use Rattle.std.specs.Prelude.{Bool, IsSome, List, None, Option, Some, [], false, map, ◌++◌, ◌∷◌, ◌≡◌, ◌≢◌, ℕ}
+use Rattle.gt_world.specs.World.{IsOneStep, NoMemory, NotOpened, Quiet, Reopen, Reopened, Replied, Request, SetMoment, StepAnswer, Taken, World, WorldRun, world_after}
 
 -- a line that was carried out, and the steps that it made
 pub record Played : Type 0 where
   pub line : Line
   pub steps : List Taken
 
--- the steps of a whole line
-abbrev pub Makes : Setup → Line → List Taken → Type 0
-Makes setup End steps = steps ≡ []
-Makes setup (Now moment) steps = IsOneStep (SetMoment moment) (λ answer. answer ≡ Quiet) steps
-Makes setup (Send identity command) steps = MakesRequest setup identity command steps
-Makes setup Restart steps = IsOneStep Reopen (λ answer. answer ≡ Reopened) steps
+-- the request of a line, as it comes in
+abbrev pub incoming_of : (token : Option (List ℕ)) → (method target body : List ℕ) → Incoming
+incoming_of token method target body = record { method = method; target = target; token = token; body = body; close = false }
+
+-- the response that a step was told
+abbrev pub response_in : StepAnswer → Option Response
+response_in (Replied response) = Some response
+response_in answer = None
+
+-- the steps of a whole line: what they do is in gt_world/specs/World.antt, and of a request in gt_service/specs/Service.antt
+abbrev pub Makes : Line → List Taken → Type 0
+Makes End steps = steps ≡ []
+Makes (Now moment) steps = IsOneStep (SetMoment moment) (λ answer. answer ≡ Quiet) steps
+Makes (Send token method target body) steps = IsOneStep (Request (incoming_of token method target body)) (λ answer. IsSome (response_in answer)) steps
+Makes Restart steps = IsOneStep Reopen (λ answer. answer ≡ Reopened) steps
 
 -- the desk was not opened again, for this fault
 abbrev pub ReopenFails : OpenFault → List Taken → Type 0
 ReopenFails fault steps = IsOneStep Reopen (λ answer. answer ≡ NotOpened fault) steps
 
+-- the steps of a request for which memory was wanted
+abbrev pub RequestWantsMemory : Incoming → List Taken → Type 0
+RequestWantsMemory incoming steps = IsOneStep (Request incoming) (λ answer. answer ≡ NoMemory) steps
+
 -- each line made its steps, one line after another
 abbrev pub ScriptRun : Setup → Bool → World → List Played → Type 0
 ScriptRun setup honest start [] = Unit {0}
 ScriptRun setup honest start (played ∷ rest) =
-    Makes setup played.line played.steps × WorldRun setup honest start played.steps × ScriptRun setup honest (world_after start played.steps) rest
+    Makes played.line played.steps × WorldRun setup honest start played.steps × ScriptRun setup honest (world_after start played.steps) rest
 
 -- the world after these lines
 abbrev pub world_at : World → List Played → World

@@ -1,43 +1,39 @@
 // A line of a script: what it does with the desk, the text that it makes, and its printing.
-ghost use Rattle.gt_desk.specs.declared.fault.DeskFault.TheVariants.{OutOfMemory};
 ghost use Rattle.gt_disk.specs.Disk.{IsSameDisk};
-ghost use Rattle.gt_script.specs.Reading.{IsGoodLine};
 ghost use Rattle.gt_script.specs.declared.line.Line.TheVariants.{End, Now, Restart, Send};
 ghost use Rattle.gt_streams.specs.Streams.{IsSameSink};
-ghost use Rattle.gt_types.specs.Reply.{is_printable};
-ghost use Rattle.std.specs.Prelude.{Err, IfErr, IfOk, IfSome, IsTrue, None, ℕ, ◌≡◌};
+ghost use Rattle.std.specs.Prelude.{IfErr, IfOk, ◌≡◌};
 ghost use Rattle.transferd.specs.Endings.{written_to};
 ghost use Rattle.transferd.specs.Progress.{CarriesOut, HasLineCause, HasMakingCause, MakesLine, disk_of_line, disk_of_made};
-ghost use Rattle.transferd.specs.Requests.{IsReplyTo};
 
 use crate::exit::Exit;
 use crate::output::{reply_line, restart_line, table};
 use crate::session::{Ended, Made, Session, stop};
-use gt_desk::DeskFault;
 use gt_disk::Disk;
 use gt_machine::{runs_are_sound, runs_go_on};
+use gt_requests::{Incoming, Routes};
 use gt_script::Line;
+use gt_service::serve_with;
 use gt_streams::{Sink, write_all};
-use gt_types::{Command, Reply, ReplyCode};
-use gt_values::{Id, Moment};
+use gt_values::{Bytes, Moment, Text};
 use std::alloc::Global;
 
 /// Carries out a line, by `make_line`, and then writes what it prints.
 pub fn run_line<D: Disk, K: Sink>(
     alloc: Global,
+    routes: &Routes,
     session: Session<D>,
-    line: &Line,
+    line: Line,
     out: &mut K,
 ) -> Result<Session<D>, Ended<D>>
-    requires good { IsGoodLine session.desk.setup line.now }
-    ensures carried { CarriesOut D.words line.now session result
+    ensures carried { CarriesOut D.words line session result
         (written_to K.words out.old out.new) }
     ensures setup { IfOk result (λ next. next.desk.setup ≡ session.desk.setup) }
     ensures same { IsSameDisk D.words session.desk.disk (disk_of_line result) }
     ensures same_out { IsSameSink K.words out.old out.new }
     ensures cause { IfErr result (HasLineCause D.words session.desk.disk K.words out.old out.new) }
 {
-    let Made { session, text } = make_line(alloc, session, line)?;
+    let Made { session, text } = make_line(alloc, routes, session, line)?;
     match write_all(out, &text) {
         Ok(()) => Ok(session),
         Err(_) => Err(stop(session.desk, Exit::SinkFault)),
@@ -46,22 +42,27 @@ pub fn run_line<D: Disk, K: Sink>(
 
 /// Carries out a line, and makes the text that it prints.
 ///
-/// What the line makes of the world, by the kinds of lines: `specs/Run.antt`, and of a request `specs/Requests.antt`.
+/// What the line makes of the world, by the kinds of lines: `specs/Run.antt`.
 pub fn make_line<D: Disk>(
     alloc: Global,
+    routes: &Routes,
     session: Session<D>,
-    line: &Line,
+    line: Line,
 ) -> Result<Made<D>, Ended<D>>
-    requires good { IsGoodLine session.desk.setup line.now }
-    ensures made { MakesLine D.words line.now session result }
+    ensures made { MakesLine D.words line session result }
     ensures setup { IfOk result (λ made. made.session.desk.setup ≡ session.desk.setup) }
     ensures same { IsSameDisk D.words session.desk.disk (disk_of_made result) }
     ensures cause { IfErr result (HasMakingCause D.words session.desk.disk) }
 {
     match line {
         Line::End => make_end(alloc, session),
-        Line::Now(moment) => make_now(alloc, session, *moment),
-        Line::Send { identity, command } => make_request(alloc, session, identity, command),
+        Line::Now(moment) => make_now(alloc, session, moment),
+        Line::Send {
+            token,
+            method,
+            target,
+            body,
+        } => make_request(alloc, routes, session, token, method, target, body),
         Line::Restart => make_restart(alloc, session),
     }
 }
@@ -98,44 +99,36 @@ fn make_now<D: Disk>(
     })
 }
 
-// The reply that is printed: where the journal failed, that one. None where memory was wanted.
-fn reply_to(answer: Result<Reply, DeskFault>) -> Option<Reply>
-    ensures printable { (count : ℕ) → IfOk answer (λ reply. IsTrue (is_printable count reply))
-        → IfSome result (λ reply. IsTrue (is_printable count reply)) }
-    ensures some { IfSome result (IsReplyTo answer) }
-    ensures none { result ≡ None → answer ≡ Err OutOfMemory }
-{
-    match answer {
-        Ok(reply) => Some(reply),
-        Err(DeskFault::JournalFault) => Some(Reply::Refused {
-            code: ReplyCode::JournalFault,
-        }),
-        Err(DeskFault::OutOfMemory) => None,
-    }
-}
-
-// Answers a request, by `Desk::answer` (`gt_desk/src/desk.rt`).
+// Serves a request, by `serve_with` (`gt_service/src/serve.rt`), at the present moment.
 fn make_request<D: Disk>(
     alloc: Global,
+    routes: &Routes,
     session: Session<D>,
-    identity: &Id,
-    command: &Command,
+    token: Option<Text>,
+    method: Text,
+    target: Text,
+    body: Bytes,
 ) -> Result<Made<D>, Ended<D>>
-    requires good { IsGoodLine session.desk.setup (Send identity.now command.now) }
-    ensures made { MakesLine D.words (Send identity.now command.now) session result }
+    ensures made { MakesLine D.words (Send token method target body) session result }
     ensures setup { IfOk result (λ made. made.session.desk.setup ≡ session.desk.setup) }
     ensures same { IsSameDisk D.words session.desk.disk (disk_of_made result) }
     ensures cause { IfErr result (HasMakingCause D.words session.desk.disk) }
 {
     let Session { desk, now } = session;
     let mut desk = desk;
+    let incoming = Incoming {
+        method,
+        target,
+        token,
+        body,
+        close: false,
+    };
     // For the proof: a run goes on by the events of the call.
     runs_go_on();
-    let answer = desk.answer(alloc, identity, command, now);
-    let Some(reply) = reply_to(answer) else {
+    let Ok((status, document)) = serve_with(alloc, routes, &mut desk, &incoming, now) else {
         return Err(stop(desk, Exit::OutOfMemory));
     };
-    match reply_line(alloc, desk.setup(), &reply) {
+    match reply_line(alloc, status, &document) {
         Ok(text) => Ok(Made {
             session: Session { desk, now },
             text,

@@ -11,6 +11,8 @@ mod file_tests;
 mod laws;
 mod line;
 mod output;
+#[cfg(test)]
+mod route_tests;
 mod script;
 mod session;
 mod setup;

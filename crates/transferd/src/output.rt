@@ -1,25 +1,20 @@
 // What is printed: replies, tables of tasks, and the numbers of events of reopened desks.
 ghost use Rattle.gt_machine.specs.TaskLine.{task_lines};
-ghost use Rattle.gt_types.specs.Reply.{is_printable};
-ghost use Rattle.std.specs.Prelude.{IfOk, IsTrue, [], length, string_bytes, ◌∷◌, ◌≡◌};
+ghost use Rattle.std.specs.Prelude.{IfOk, [], string_bytes, ◌∷◌, ◌≡◌};
 ghost use Rattle.transferd.specs.Output as spec;
-ghost use Rattle.transferd.specs.Output.{restart_text, table_text, task_text};
+ghost use Rattle.transferd.specs.Output.{response_text, restart_text, table_text, task_text};
 
 use gt_machine::{State, TaskLine};
-use gt_replies::{status_name, type_name, write_reply};
-use gt_setup::Setup;
-use gt_types::Reply;
+use gt_replies::{status_name, type_name};
 use std::alloc::{AllocError, Global};
 
-/// A reply: the line `reply STATUS LENGTH`, and the body on a line.
-pub fn reply_line(alloc: Global, setup: &Setup, reply: &Reply) -> Result<Vec<u8>, AllocError>
-    requires { IsTrue (is_printable (length setup.now.collections) reply.now) }
-    ensures { IfOk result (λ text. text.items ≡ spec.reply_line setup.now reply.now) }
+/// A reply: the line `reply STATUS LENGTH`, and the document on a line.
+pub fn reply_line(alloc: Global, status: u16, document: &[u8]) -> Result<Vec<u8>, AllocError>
+    ensures { IfOk result (λ text. text.items ≡ response_text (status, document.now)) }
 {
-    let (status, body) = write_reply(alloc, setup, reply)?;
-    let length = body.len();
+    let length = document.len();
     let mut text = format!(in alloc; "reply {status} {length}\n")?.into_bytes();
-    text.extend_from_slice(&body)?;
+    text.extend_from_slice(document)?;
     text.push(b'\n')?;
     Ok(text)
 }

@@ -1,9 +1,8 @@
 ghost use Rattle.gt_disk.specs.Disk.{IsSameDisk};
 ghost use Rattle.gt_machine.specs.Run.{run_of};
-ghost use Rattle.gt_script.specs.declared.line.Line.TheVariants.{End};
 ghost use Rattle.gt_streams.specs.Streams.{IsSameSink, IsSameSource};
 ghost use Rattle.gt_types.specs.declared.event.Event.{Event};
-ghost use Rattle.std.specs.Prelude.{IsTrue, List, None, Some, ◌<◌, ◌^◌, ◌↔◌, ◌≡◌};
+ghost use Rattle.std.specs.Prelude.{IsTrue, List, None, Some, ◌<◌, ◌^◌, ◌≡◌};
 ghost use Rattle.transferd.specs.Endings.{read_from, written_to};
 ghost use Rattle.transferd.specs.Exits.{HasScriptCauses, exit_of_read, faults_of};
 ghost use Rattle.transferd.specs.MainTheorem.{DeskTheorem, Ran};
@@ -16,7 +15,8 @@ use crate::session::{Ended, Session, stop};
 use gt_desk::Desk;
 use gt_disk::Disk;
 use gt_machine::runs_go_on;
-use gt_script::{Line, SCRIPT_LIMIT, ScriptFault, lines_end_with_their_text, read_script_line};
+use gt_requests::Routes;
+use gt_script::{SCRIPT_LIMIT, ScriptFault, lines_end_with_their_text, read_script_line};
 use gt_setup::Setup;
 use gt_streams::{Sink, Source};
 use gt_values::Moment;
@@ -26,6 +26,7 @@ use std::alloc::Global;
 /// Opens the desk on the disk of its journal, by `Desk::open`, and runs the lines of a script on it, by `run_script`.
 pub fn serve_script<T: Source, K: Sink, D: Disk>(
     alloc: Global,
+    routes: &Routes,
     setup: Setup,
     disk: D,
     script: &mut T,
@@ -47,7 +48,7 @@ pub fn serve_script<T: Source, K: Sink, D: Disk>(
             lines_make_one_run();
             histories_of_a_run_are_sound();
             acknowledged_events_stay_in_a_run::<D>();
-            run_script(alloc, desk, script, out)
+            run_script(alloc, routes, desk, script, out)
         }
         Err(refused) => Ended {
             exit: Exit::of_opening(refused.fault),
@@ -67,17 +68,11 @@ fn exit_of_reading(fault: ScriptFault) -> Exit
     }
 }
 
-// Whether the line is the end. It takes the line, so that the loop has no case for each of its parts.
-fn is_last(line: Line) -> bool
-    ensures { IsTrue result ↔ (line ≡ End) }
-{
-    line.is_end()
-}
-
 // Runs the lines of a script up to its end on a desk. Each is carried out, by `run_line` (`line.rt`), before the next is
 // read.
 fn run_script<T: Source, K: Sink, D: Disk>(
     alloc: Global,
+    routes: &Routes,
     desk: Desk<D>,
     script: &mut T,
     out: &mut K,
@@ -117,11 +112,12 @@ fn run_script<T: Source, K: Sink, D: Disk>(
             Ok(line) => line,
             Err(fault) => return stop(session.desk, exit_of_reading(fault)),
         };
-        match run_line(alloc, session, &line, out) {
+        let is_last = line.is_end();
+        match run_line(alloc, routes, session, line, out) {
             Ok(next) => session = next,
             Err(stopped) => return stopped,
         }
-        if is_last(line) {
+        if is_last {
             return stop(session.desk, Exit::Done);
         }
         ran += 1;

@@ -133,18 +133,65 @@ pub(crate) fn run_on<D: Disk>(
     Ok((exit, out))
 }
 
+// A run of a script on an empty disk, where all is read and written in pieces of at most this size.
+pub(crate) fn run_in_pieces(
+    alloc: Global,
+    setup: &[u8],
+    script: &[u8],
+    piece: u32,
+) -> Result<(Exit, MemSink), Fail>
+    requires { 1 ≤ piece }
+{
+    let words = words(alloc, &["script", "setup"])?;
+    let mut setup = source(alloc, setup, piece, &[])?;
+    let mut script = source(alloc, script, piece, &[])?;
+    let mut out = MemSink::new(alloc, piece, Vec::new(alloc));
+    let mut disk = disk(alloc, &[], &[])?;
+    let exit = script_top(alloc, &words, &mut setup, &mut script, &mut out, &mut disk);
+    Ok((exit, out))
+}
+
 // A run of a script on an empty disk.
 fn run(alloc: Global, setup: &[u8], script: &[u8]) -> Result<(Exit, MemSink), Fail> {
     let mut disk = disk(alloc, &[], &[])?;
     run_on(alloc, setup, script, &mut disk)
 }
 
+// The document with another destination, and the same identifier.
+const OTHER_DOCUMENT: &str =
+    "{\"DATA\":[{\"DATA_TYPE\":\"transfer_item\",\"destination_path\":\"/f\",\"source_path\":\"/e\"}],\"DATA_TYPE\":\"transfer\",\"destination_endpoint\":\"00000000-0000-4000-8000-0000000000c1\",\"source_endpoint\":\"00000000-0000-4000-8000-0000000000c0\",\"submission_id\":\"00000007-0001-8000-8000-000000000001\"}";
+
 #[test]
-fn submission_and_repeat(rt: HostRuntime) -> Result<(), Fail> {
+fn repeat_of_a_submission_is_duplicate(rt: HostRuntime) -> Result<(), Fail> {
     let alloc = rt.alloc();
     let words = words(alloc, &["script", "setup"])?;
-    let lines = joined(alloc, &[ANN, DOCUMENT, "\n", ANN, DOCUMENT, "\nend\nend\n"])?;
-    let printed = joined(alloc, &[ACCEPTED, DUPLICATE, ONE_TASK])?;
+    let lines = joined(
+        alloc,
+        &[
+            ANN,
+            DOCUMENT,
+            "\n",
+            ANN,
+            DOCUMENT,
+            "\n",
+            ANN,
+            OTHER_DOCUMENT,
+            "\n",
+            BOB,
+            DOCUMENT,
+            "\nend\nend\n",
+        ],
+    )?;
+    let printed = joined(
+        alloc,
+        &[
+            ACCEPTED,
+            DUPLICATE,
+            DUPLICATE,
+            ACCEPTED_SECOND,
+            "end 2 2\ntask 1 TRANSFER ACTIVE 1 1 0 0 0 0 0 0 0 0\ntask 2 TRANSFER ACTIVE 1 1 0 0 0 0 0 0 0 0\n",
+        ],
+    )?;
     let mut setup = source(alloc, SETUP.as_bytes(), 4096, &[])?;
     let mut script = source(alloc, &lines, 4096, &[])?;
     let mut out = MemSink::new(alloc, 4096, Vec::new(alloc));
@@ -156,24 +203,6 @@ fn submission_and_repeat(rt: HostRuntime) -> Result<(), Fail> {
     let mut rest = Vec::new(alloc);
     read_exactly(&mut script, 4, &mut rest)?;
     assert!(rt; rest.as_slice() == b"end\n".as_slice());
-    Ok(())
-}
-
-#[test]
-fn other_owner_makes_its_own_task(rt: HostRuntime) -> Result<(), Fail> {
-    let alloc = rt.alloc();
-    let script = joined(alloc, &[ANN, DOCUMENT, "\n", BOB, DOCUMENT, "\nend\n"])?;
-    let printed = joined(
-        alloc,
-        &[
-            ACCEPTED,
-            ACCEPTED_SECOND,
-            "end 2 2\ntask 1 TRANSFER ACTIVE 1 1 0 0 0 0 0 0 0 0\ntask 2 TRANSFER ACTIVE 1 1 0 0 0 0 0 0 0 0\n",
-        ],
-    )?;
-    let (exit, out) = run(alloc, SETUP.as_bytes(), &script)?;
-    assert!(rt; exit == Exit::Done);
-    assert!(rt; out.bytes() == printed.as_slice());
     Ok(())
 }
 
@@ -205,38 +234,6 @@ fn moments_identifiers_and_a_repeat(rt: HostRuntime) -> Result<(), Fail> {
     let (exit, out) = run(alloc, SETUP.as_bytes(), &script)?;
     assert!(rt; exit == Exit::Done);
     assert!(rt; out.bytes() == printed.as_slice());
-    Ok(())
-}
-
-// The script of the good document, and then of this one.
-fn second_submission(alloc: Global, document: &str) -> Result<Vec<u8>, Fail> {
-    let size = document.len();
-    let head = format!(in alloc; "send abc POST /v0.10/transfer {size}\n")?;
-    let mut script = joined(alloc, &[ANN, DOCUMENT, "\n"])?;
-    script.extend_from_slice(head.as_bytes())?;
-    script.extend_from_slice(document.as_bytes())?;
-    script.extend_from_slice(b"\nend\n")?;
-    Ok(script)
-}
-
-#[test]
-fn other_documents_are_refused_at_their_line(rt: HostRuntime) -> Result<(), Fail> {
-    let alloc = rt.alloc();
-    let table: [&str; 6] = [
-        "",
-        "{\"DATA\":[{\"DATA_TYPE\":\"transfer_item\",\"destination_path\":\"/f\",\"source_path\":\"/e\"}],\"DATA_TYPE\":\"transfer\",\"destination_endpoint\":\"00000000-0000-4000-8000-0000000000c1\",\"source_endpoint\":\"00000000-0000-4000-8000-0000000000c0\",\"submission_id\":\"00000007-0001-8000-8000-000000000001\",\"verify_checksum\":true}",
-        "{\"DATA\":[{\"DATA_TYPE\":\"transfer_item\",\"destination_path\":7,\"source_path\":\"/e\"}],\"DATA_TYPE\":\"transfer\",\"destination_endpoint\":\"00000000-0000-4000-8000-0000000000c1\",\"source_endpoint\":\"00000000-0000-4000-8000-0000000000c0\",\"submission_id\":\"00000007-0001-8000-8000-000000000001\"}",
-        "{\"DATA\":[{\"DATA_TYPE\":\"transfer_item\",\"destination_path\":\"f\",\"source_path\":\"/e\"}],\"DATA_TYPE\":\"transfer\",\"destination_endpoint\":\"00000000-0000-4000-8000-0000000000c1\",\"source_endpoint\":\"00000000-0000-4000-8000-0000000000c0\",\"submission_id\":\"00000007-0001-8000-8000-000000000001\"}",
-        "{\"DATA\":[{\"DATA_TYPE\":\"transfer_item\",\"destination_path\":\"/e/f\",\"source_path\":\"/e\"}],\"DATA_TYPE\":\"transfer\",\"destination_endpoint\":\"00000000-0000-4000-8000-0000000000c0\",\"source_endpoint\":\"00000000-0000-4000-8000-0000000000c0\",\"submission_id\":\"00000007-0001-8000-8000-000000000001\"}",
-        "{\"DATA\":[{\"DATA_TYPE\":\"transfer_item\",\"destination_path\":\"/f\",\"source_path\":\"/e\"}],\"DATA_TYPE\":\"transfer\",\"destination_endpoint\":\"00000000-0000-4000-8000-0000000000c9\",\"source_endpoint\":\"00000000-0000-4000-8000-0000000000c0\",\"submission_id\":\"00000007-0001-8000-8000-000000000001\"}",
-    ];
-    for document in table {
-        let script = second_submission(alloc, document)?;
-        let (exit, out) = run(alloc, SETUP.as_bytes(), &script)?;
-        assert!(rt; exit == Exit::ScriptRefused { line: 2 });
-        assert!(rt; exit.status() == 4);
-        assert!(rt; out.bytes() == ACCEPTED.as_bytes());
-    }
     Ok(())
 }
 
@@ -385,15 +382,26 @@ fn a_failing_sink_ends_the_run(rt: HostRuntime) -> Result<(), Fail> {
     Ok(())
 }
 
+// A request that is refused without the desk.
+const NO_RESOURCE: &str = "send - GET /v0.10/nothing 0\n\n";
+
+const NO_SUCH_RESOURCE: &str = "reply 404 69
+{\"DATA_TYPE\":\"error\",\"code\":\"NotFound\",\"message\":\"No such resource.\"}
+";
+
 #[test]
-fn record_in_doubt_is_answered_again(rt: HostRuntime) -> Result<(), Fail> {
+fn doubtful_record_is_settled(rt: HostRuntime) -> Result<(), Fail> {
     let alloc = rt.alloc();
-    let script = joined(alloc, &[ANN, DOCUMENT, "\n", ANN, DOCUMENT, "\nend\n"])?;
-    // The second sync of the record fails, so it is there all the same; or the first one, so it isn't.
+    let script = joined(
+        alloc,
+        &[ANN, DOCUMENT, "\n", NO_RESOURCE, ANN, DOCUMENT, "\nend\n"],
+    )?;
+    // The second sync of the record fails, so it is there all the same; or the first one, so it isn't. The refusal between
+    // leaves it in doubt.
     for (call, again) in [(8, DUPLICATE), (6, ACCEPTED)] {
         let mut disk = disk(alloc, &[], &[call])?;
         let (exit, out) = run_on(alloc, SETUP.as_bytes(), &script, &mut disk)?;
-        let printed = joined(alloc, &[FAILED, again, ONE_TASK])?;
+        let printed = joined(alloc, &[FAILED, NO_SUCH_RESOURCE, again, ONE_TASK])?;
         assert!(rt; exit == Exit::Done);
         assert!(rt; out.bytes() == printed.as_slice());
         assert_eq!(rt; disk.faults(), 1);

@@ -17,6 +17,7 @@ use crate::setup::read_setup;
 use crate::words::are_script_words;
 use gt_disk::Disk;
 use gt_machine::runs_go_on;
+use gt_requests::Routes;
 use gt_streams::{Sink, Source};
 use std::alloc::Global;
 use std::rc::RcStr;
@@ -80,13 +81,16 @@ pub fn script_top<S: Source, T: Source, K: Sink, D: Disk>(
         return Exit::Usage;
     }
     one_exit_where_nothing_fails();
+    let Ok(routes) = Routes::new(alloc) else {
+        return Exit::OutOfMemory;
+    };
     match read_setup(alloc, setup) {
         Ok(opened) => {
             // For the proof: a setup has fewer than 2^32 collections, and a run without faults is calm.
             let _ = opened.collections();
             runs_go_on();
             runs_without_faults_are_calm();
-            let ended = serve_script(alloc, opened, &mut *disk, script, out);
+            let ended = serve_script(alloc, &routes, opened, &mut *disk, script, out);
             let Ended { exit, disk: _disk } = ended;
             exit
         }

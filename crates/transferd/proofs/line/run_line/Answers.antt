@@ -19,5 +19,5 @@ returns-clause-carried g c start leads =
     let made = c.in_ok-session.ensures.made start leads in
     let out : Stream = written_to g.K.Sink.words c.args.out.now c.write_all.new.sink in
     let same : c.deref.result.now ≡ next.text.items = search rules in
-    half_printed d.words (d.words.honest old.desk.disk) old.desk.setup c.args.line.now start old.desk.disk next.session next.text.items made c.stop.result.exit c.stop.ensures.exit c.stop.result.disk c.stop.ensures.disk out
+    half_printed d.words (d.words.honest old.desk.disk) old.desk.setup c.args.line start old.desk.disk next.session next.text.items made c.stop.result.exit c.stop.ensures.exit c.stop.result.disk c.stop.ensures.disk out
     (λ t. subst (λ b. IsPart b out.before out.after) same (record { number = c.in-Err.field-0.wrote; not_all = c.in-Err.ensures.room; written = (c.in-Err.ensures.told t).err }))

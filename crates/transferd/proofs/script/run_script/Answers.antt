@@ -102,7 +102,7 @@ returns-then-is_last-clause-ran g c history runs same =
     (λ h s told. (world : World) → IsPresent w h s world l.session
     → (text : List ℕ) × MadeLine w h s line world l.session.desk.disk next text × (IsTrue told → written ≡ out.after ++ text))
     (w.honest l.session.desk.disk) honest l.session.desk.setup setup (g.K.Sink.words.told l.out) out.told l.invariant.disk.honest l.invariant.setup l.invariant.sink.told c.in-Ok-run_line.ensures.carried (world_at start so_far.run) so_far.leads in
-    done w honest setup start first.disk l.ran l.session l.taken script out so_far after line through begins written next print made wrote (c.is_last.ensures.0 c.if-is_last.true) c.stop-then-is_last.result.exit c.stop-then-is_last.ensures.exit c.stop-then-is_last.result.disk c.stop-then-is_last.ensures.disk
+    done w honest setup start first.disk l.ran l.session l.taken script out so_far after line through begins written next print made wrote (c.is_end-is_last.ensures.0 c.if-is_last.true) c.stop-then-is_last.result.exit c.stop-then-is_last.ensures.exit c.stop-then-is_last.result.disk c.stop-then-is_last.ensures.disk
 
 pub loop-taken-preserved : goal.loop-taken-preserved
 loop-taken-preserved g c = record {
@@ -120,8 +120,8 @@ loop-taken-preserved g c = record {
     told = c.run_line.ensures.same_out.told ∙ c.loop-taken.invariant.sink.told;
   };
   setup = c.in-Ok-run_line.ensures.setup ∙ c.loop-taken.invariant.setup;
-  number = omega (arith, c.loop-taken.invariant.number, c.in-Ok.ensures.ok.1);
-  fits = omega (arith, c.in-Ok.ensures.ok.1, c.in-Ok.ensures.ok.2);
+  number = omega (arith, c.loop-taken.invariant.number, c.in-Ok.ensures.ok.0);
+  fits = omega (arith, c.in-Ok.ensures.ok.0, c.in-Ok.ensures.ok.1);
   so_far = λ history runs same.
       let w = g.D.Disk.words in
       let l = c.loop-taken in
@@ -142,7 +142,7 @@ loop-taken-preserved g c = record {
       (λ h s told. (world : World) → IsPresent w h s world l.session
       → (text : List ℕ) × MadeLine w h s line world l.session.desk.disk next text × (IsTrue told → written ≡ out.after ++ text))
       (w.honest l.session.desk.disk) honest l.session.desk.setup setup (g.K.Sink.words.told l.out) out.told l.invariant.disk.honest l.invariant.setup l.invariant.sink.told c.in-Ok-run_line.ensures.carried (world_at start so_far.run) so_far.leads in
-      let other : line ≢ End = λ e. let never : ⊥ = cc (c.is_last.ensures.1 e, c.if-is_last.false) in never in
+      let other : line ≢ End = λ e. let never : ⊥ = cc (c.is_end-is_last.ensures.1 e, c.if-is_last.false) in never in
       more w honest setup start first.disk l.ran l.session l.taken script out so_far after line through begins written next print made wrote other;
 }
 

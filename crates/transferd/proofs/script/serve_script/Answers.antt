@@ -19,7 +19,7 @@ returns-in-Ok-clause-theorem g c =
     let out : Stream = written_to g.K.Sink.words c.args.out.now c.run_script.new.out in
     let same : desk.setup ≡ setup = c.in-Ok.ensures.setup in
     let kept = c.in-Ok.ensures.same in
-    let laws : RunLaws setup = record { go_on = c.runs_go_on.ensures.run setup; one_run = c.lines_make_one_run.ensures setup; sound = c.histories_of_a_run_are_sound.ensures setup } in
+    let laws : RunLaws setup = record { go_on = c.runs_go_on.ensures.run setup; one_run = c.lines_make_one_run.ensures setup; sound = c.histories_of_a_run_are_sound.ensures.sound setup; one_task = c.histories_of_a_run_are_sound.ensures.one_task setup } in
     let is : IsOpened w setup old desk = c.in-Ok.ensures.opened in
     let history = opened w setup old desk is kept laws in
     let ran = c.run_script.ensures.ran history (subst (λ (s : Setup). run_of s history ≡ Some desk.ledger.machine) (sym same) (opened_runs w setup old desk is kept laws)) (λ t. sym (is.history (sym kept.honest ∙ t))) in
