@@ -9,7 +9,7 @@ use std::alloc::Global;
 use std::test::Fail;
 
 // Two identities, `ann` with the token `abc` and `bob` with `hello`, and three collections.
-const SETUP: &[u8] = b"namespace = 7
+pub(crate) const SETUP: &[u8] = b"namespace = 7
 [[identity]]
 id = \"00000000-0000-4000-8000-0000000000a1\"
 name = \"ann\"
@@ -39,20 +39,20 @@ home = \"/\"
 
 // A request with its token, `-` for none.
 #[derive(Clone, Copy)]
-struct Ask {
-    token: &'static str,
-    method: &'static str,
-    target: &'static str,
-    body: &'static str,
+pub(crate) struct Ask {
+    pub(crate) token: &'static str,
+    pub(crate) method: &'static str,
+    pub(crate) target: &'static str,
+    pub(crate) body: &'static str,
 }
 
 // A request, and the status and the bytes that it is answered.
 type Row = (Ask, u16, &'static str);
 
-const DOCUMENT: &str =
+pub(crate) const DOCUMENT: &str =
     r#"{"DATA":[{"DATA_TYPE":"transfer_item","destination_path":"/e","source_path":"/e"}],"DATA_TYPE":"transfer","destination_endpoint":"00000000-0000-4000-8000-0000000000c1","source_endpoint":"00000000-0000-4000-8000-0000000000c0","submission_id":"00000007-0001-8000-8000-000000000001"}"#;
 
-const SUBMIT: Ask = Ask {
+pub(crate) const SUBMIT: Ask = Ask {
     token: "abc",
     method: "POST",
     target: "/v0.10/transfer",
@@ -259,7 +259,7 @@ const ON_FAULTS: [(u64, u16, &str); 4] = [
     (8, 200, DUPLICATE),
 ];
 
-fn opened(alloc: Global, fails: &[u64]) -> Result<Desk<MemDisk>, Fail> {
+pub(crate) fn opened(alloc: Global, fails: &[u64]) -> Result<Desk<MemDisk>, Fail> {
     let setup = Setup::read(alloc, SETUP)?;
     let disk = MemDisk::new(alloc, Vec::new(alloc), fails.to_vec(alloc)?)?;
     match Desk::open(alloc, setup, disk) {
@@ -284,7 +284,7 @@ fn incoming(alloc: Global, ask: Ask, body: Vec<u8>) -> Result<Incoming, Fail> {
 }
 
 // The status and the bytes that a request with this body is answered at the moment 100.
-fn served(
+pub(crate) fn served(
     alloc: Global,
     desk: &mut Desk<MemDisk>,
     ask: Ask,
@@ -393,11 +393,98 @@ fn status_of_entries(alloc: Global, entries: u32) -> Result<(u16, usize), Fail> 
     Ok((status, bytes.len()))
 }
 
+const TASK_OF_10000: &str =
+    r#"{"DATA_TYPE":"task","bytes_checksummed":0,"bytes_transferred":0,"completion_time":null,"deadline":null,"delete_destination_extra":false,"destination_endpoint_id":"00000000-0000-4000-8000-0000000000c1","directories":0,"fatal_error":null,"faults":0,"files":0,"files_skipped":0,"files_transferred":0,"is_paused":false,"label":null,"owner_id":"00000000-0000-4000-8000-0000000000a1","preserve_timestamp":false,"recursive_symlinks":"ignore","request_time":"1970-01-01T00:01:40+00:00","skip_source_errors":false,"source_endpoint_id":"00000000-0000-4000-8000-0000000000c0","status":"ACTIVE","subtasks_canceled":0,"subtasks_expired":0,"subtasks_failed":0,"subtasks_pending":10000,"subtasks_retrying":0,"subtasks_skipped_errors":0,"subtasks_succeeded":0,"subtasks_total":10000,"sync_level":null,"task_id":"00000007-0002-8000-8000-000000000001","type":"TRANSFER","verify_checksum":false}"#;
+
+const SHOW: Ask = Ask {
+    token: "abc",
+    method: "GET",
+    target: FIRST_TASK,
+    body: "",
+};
+
+// The document of the task of so many entries.
+fn shown(alloc: Global, entries: u32) -> Result<Vec<u8>, Fail> {
+    let mut desk = opened(alloc, &[])?;
+    let body = document(alloc, entries)?;
+    let _ = served(alloc, &mut desk, SUBMIT, body)?;
+    let (_status, bytes) = served(alloc, &mut desk, SHOW, Vec::new(alloc))?;
+    Ok(bytes)
+}
+
 #[test]
 fn entry_list_of_a_document_has_1_to_10000(rt: HostRuntime) -> Result<(), Fail> {
+    assert!(rt; shown(rt.alloc(), 10_000)?.as_slice() == TASK_OF_10000.as_bytes());
     assert_eq!(rt; status_of_entries(rt.alloc(), 0)?, (400, 87));
     assert_eq!(rt; status_of_entries(rt.alloc(), 10_000)?, (202, 188));
     assert_eq!(rt; status_of_entries(rt.alloc(), 10_001)?, (400, 87));
+    Ok(())
+}
+
+const DIGITS: [u8; 16] = *b"0123456789abcdef";
+
+// The document with the identifier that is made of this number in the place of its own.
+fn with_number(alloc: Global, body: &[u8], number: u8) -> Result<Vec<u8>, Fail> {
+    let front = &body[..body.len().saturating_sub(4)];
+    let mut numbered = front.to_vec(alloc)?;
+    numbered.push(DIGITS[(number / 16 % 16) as usize])?;
+    numbered.push(DIGITS[(number % 16) as usize])?;
+    numbered.extend_from_slice(b"\"}")?;
+    Ok(numbered)
+}
+
+// The status that the document with this number is answered, and the number of bytes of the answer.
+fn status_of_number(
+    alloc: Global,
+    desk: &mut Desk<MemDisk>,
+    body: &[u8],
+    number: u8,
+) -> Result<(u16, usize), Fail> {
+    let body = with_number(alloc, body, number)?;
+    let (status, bytes) = served(alloc, desk, SUBMIT, body)?;
+    Ok((status, bytes.len()))
+}
+
+// How many of forty documents are accepted.
+fn accepted(alloc: Global, desk: &mut Desk<MemDisk>, body: &[u8]) -> Result<u8, Fail> {
+    let mut count: u8 = 0;
+    for number in 1..41u8 {
+        let (status, _length) = status_of_number(alloc, desk, body, number)?;
+        if status == 202 {
+            count = count.saturating_add(1);
+        }
+    }
+    Ok(count)
+}
+
+const FULL: &str = r#"{"DATA_TYPE":"error","code":"LimitReached","message":"The table is full."}"#;
+
+// How many of forty documents of 10,000 entries are accepted.
+fn filled(alloc: Global, desk: &mut Desk<MemDisk>) -> Result<u8, Fail> {
+    let large = document(alloc, 10_000)?;
+    accepted(alloc, desk, &large)
+}
+
+// What a document of one entry with this number is answered: the status, and the number of bytes.
+fn small(alloc: Global, desk: &mut Desk<MemDisk>, number: u8) -> Result<(u16, usize), Fail> {
+    let body = document(alloc, 1)?;
+    status_of_number(alloc, desk, &body, number)
+}
+
+// How many documents are accepted, and what one more and a repeat are answered.
+fn at_the_limit(alloc: Global) -> Result<(u8, (u16, usize), (u16, usize)), Fail> {
+    let mut desk = opened(alloc, &[])?;
+    let count = filled(alloc, &mut desk)?;
+    let refused = small(alloc, &mut desk, 41)?;
+    let again = small(alloc, &mut desk, 40)?;
+    Ok((count, refused, again))
+}
+
+// Forty tasks of 10,000 entries are all that there is room for, and a repeat needs none.
+#[test]
+fn task_table_is_full(rt: HostRuntime) -> Result<(), Fail> {
+    let full = (40, (409, FULL.len()), (200, DUPLICATE.len()));
+    assert_eq!(rt; at_the_limit(rt.alloc())?, full);
     Ok(())
 }
 
