@@ -406,9 +406,11 @@ fn counts_its_entries(alloc: Global) -> Result<bool, Fail> {
     let body = document(alloc, 10_000)?;
     let _ = served(alloc, &mut desk, SUBMIT, body)?;
     let (_status, bytes) = served(alloc, &mut desk, SHOW, Vec::new(alloc))?;
-    Ok(bytes
-        .windows(22)
-        .any(|window| window == b"\"subtasks_total\":10000"))
+    Ok(
+        bytes
+            .windows(22)
+            .any(|window| window == b"\"subtasks_total\":10000".as_slice()),
+    )
 }
 
 #[test]
